@@ -1,0 +1,4 @@
+pub mod Pdu
+pub mod Block
+pub mod Cursor
+pub mod Written
