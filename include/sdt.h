@@ -82,8 +82,9 @@ typedef struct {
 } sdt_next_answer;
 
 /* The message behind a cursor. From the cursor of sdt_open_block on, the calls give what sdt_read_block gives for positions 0, 1, 2, ..
- * of the same block, at the cost of one pass. Any cursor is safe: with one that was not made for this block the answer is SDT_ASTRAY, or a
- * message that lies inside the block; and with every SDT_OK the cursor moves towards the block's end, so a loop over it ends. */
+ * of the same block, at the cost of one pass. Any cursor is safe. One that cannot be of this block is answered SDT_ASTRAY: it lies past the
+ * end, or the message before it does not lie before it, or no PDU begins there, or the block is over SDT_MAX_BLOCK octets. Any other cursor
+ * is taken at its word, but what it is answered lies inside the block. With every SDT_OK the cursor moves on, so a loop over it ends. */
 sdt_next_answer sdt_next_message(const uint8_t *block, size_t block_length, sdt_cursor cursor);
 
 /* ---- messages ---- */

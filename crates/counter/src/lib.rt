@@ -1,6 +1,7 @@
 // The two counters of a channel and the signed distance between two numbers of one counter. A total number and a reliable number are
 // two types, so no comparison or sum takes one for the other.
 ghost use mathlib.Core.Path.{_≡_};
+ghost use lib.Dec.{eqb};
 ghost use Rattle.counter.specs.Distance.{ahead, distance};
 ghost use Rattle.counter.specs.Steps.{next, previous, before};
 
@@ -39,6 +40,12 @@ pub fn reliable_distance(old: Reliable, new: Reliable) -> i32
     ensures { λ r. ⌜ r ≡ distance (old .0) (new .0) ⌝ }
 {
     signed_distance(old.0, new.0)
+}
+
+pub fn same_reliable(a: Reliable, b: Reliable) -> bool
+    ensures { λ r. ⌜ r ≡ eqb (a .0) (b .0) ⌝ }
+{
+    a.0 == b.0
 }
 
 // `reliable` less the threshold: with a last acknowledged number past this one no ACK is due.

@@ -1,0 +1,5 @@
+pub mod Table
+pub mod Lengths
+pub mod Readable
+pub mod Arms
+pub mod Refused
