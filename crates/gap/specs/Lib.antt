@@ -1,0 +1,3 @@
+pub mod Standoff
+pub mod Range
+pub mod Elapsed

@@ -1,0 +1,33 @@
+-- The range of a NAK (01, "One channel", elapsed): all that is missing before the nearest held wrapper, or all up to K.
+use mathlib.Core.Bool.{cond}
+use mathlib.Core.List.{List, [], _∷_}
+use lib.Signed.{ltZ}
+use Rattle.counter.specs.Distance.{distance}
+use Rattle.counter.specs.Steps.{next, previous}
+use Rattle.counter.specs.declared.Reliable.{Reliable}
+use Rattle.record.specs.declared.Place.{Place}
+use Rattle.record.specs.declared.Record.{Record}
+use Rattle.gap.specs.declared.Nearest.{Nearest}
+use Rattle.gap.specs.declared.Nearest.the-variants.{Held, Nothing}
+
+-- of the number found so far and what a place holds, the one at the lesser distance from r
+unfoldable pub nearer : Reliable → Nearest → Place → Nearest
+nearer r Nothing p = cond (p .used) (Held (p .reliable)) Nothing
+nearer r (Held n) p =
+    cond (p .used)
+    (cond (ltZ (distance (r .0) (p .reliable .0)) (distance (r .0) (n .0))) (Held (p .reliable)) (Held n))
+    (Held n)
+
+unfoldable pub nearest : Reliable → Nearest → List Place → Nearest
+nearest r found [] = found
+nearest r found (p ∷ ps) = nearest r (nearer r found p) ps
+
+abbrev pub endBy : Nearest → Reliable → Reliable
+endBy (Held n) k = record { 0 = previous (n .0) }
+endBy Nothing k = k
+
+unfoldable pub nakLast : Record → Reliable
+nakLast r = endBy (nearest (r .reliable) Nothing (r .places)) (r .known)
+
+unfoldable pub nakFirst : Record → Reliable
+nakFirst r = record { 0 = next (r .reliable .0) }

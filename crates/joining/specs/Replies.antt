@@ -1,0 +1,32 @@
+-- The messages that a member sends about a channel (01, "Joining" and "One channel"), as values.
+use Prim.Native.Nat.{ℕ}
+use Rattle.counter.specs.declared.Reliable.{Reliable}
+use Rattle.message.specs.declared.Cid.{Cid}
+use Rattle.message.specs.declared.Membership.{Membership}
+use Rattle.message.specs.declared.Join.{Join}
+use Rattle.message.specs.declared.Message.{Message}
+use Rattle.message.specs.declared.Message.the-variants as message
+use Rattle.record.specs.declared.Terms.{Terms}
+
+-- the member of a record, at a reliable number
+unfoldable pub memberAt : Terms → Reliable → Membership
+memberAt t r = record { leader = t .owner; channel = t .channel; mid = t .mid; reliable = r }
+
+-- the member that a Join asks for, at the Join's reliable number or another
+unfoldable pub askedAt : Cid → Join → Reliable → Membership
+askedAt owner j r = record { leader = owner; channel = j .channel; mid = j .mid; reliable = r }
+
+-- a Join Refuse carries the Join's channel, MID and reliable number
+unfoldable pub refusal : Cid → Join → ℕ → Message
+refusal owner j reason = message.JoinRefuse (askedAt owner j (j .reliable)) reason
+
+-- a Join Accept carries R and the reciprocal channel
+unfoldable pub acceptance : Cid → Join → Reliable → ℕ → Message
+acceptance owner j r reciprocal = message.JoinAccept (askedAt owner j r) reciprocal
+
+-- every Leaving carries R
+unfoldable pub departure : Terms → Reliable → ℕ → Message
+departure t r reason = message.Leaving (memberAt t r) reason
+
+unfoldable pub missing : Terms → Reliable → Reliable → Reliable → Message
+missing t r first last = message.Nak (memberAt t r) first last

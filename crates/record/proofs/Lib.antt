@@ -1,0 +1,3 @@
+-- What the proofs of `record` share, and the laws of a well-formed record.
+pub mod Leaves
+pub mod Formed

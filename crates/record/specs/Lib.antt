@@ -1,0 +1,5 @@
+pub mod Profile
+pub mod Reasons
+pub mod Legal
+pub mod WellFormed
+pub mod With

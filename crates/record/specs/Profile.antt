@@ -1,0 +1,18 @@
+-- The profile's numbers (000, Table 4, by way of the interoperability profile: docs/DECISIONS.md). They stand here once; no proof leans on their values.
+use Prim.Native.Nat.{ℕ, _*_}
+
+-- MIN_EXPIRY_TIME, in seconds
+unfoldable pub minExpiry : ℕ
+minExpiry = 2
+
+-- NAK_TIMEOUT_FACTOR, in milliseconds for each second of expiry
+unfoldable pub nakTimeoutFactor : ℕ
+nakTimeoutFactor = 100
+
+-- NAK_TIMEOUT, in milliseconds
+unfoldable pub nakTimeout : ℕ → ℕ
+nakTimeout expiry = expiry * nakTimeoutFactor
+
+-- NAK_MAX_RETRIES
+unfoldable pub maxRetries : ℕ
+maxRetries = 3

@@ -1,0 +1,5 @@
+pub mod Judge
+pub mod Hold
+pub mod Release
+pub mod Settle
+pub mod Taken
