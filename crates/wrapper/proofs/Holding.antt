@@ -107,7 +107,7 @@ module _ (w : Arrived) (ps : List Place) where
     unfolding placeFor
     place-free f t g = rw (not-false (w .reliably) u, ← e, t, g)
 
-pub ruleset placings = (place-unreliable, place-held, place-free, none-of-four)
+pub ruleset placings = (place-unreliable, place-held, place-free)
 
 -- ---- step 3
 

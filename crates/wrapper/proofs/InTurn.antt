@@ -81,7 +81,7 @@ one-more-in-turn t n (b ∷ ds) u m d c e f = (c .0, c .1, one-more-in-turn (b .
 
 -- ---- what the tests say
 
-is-number : (n : ℕ) (z : ℤ) → is n z ≡ true → z ≡ pos n
+pub is-number : (n : ℕ) (z : ℤ) → is n z ≡ true → z ≡ pos n
 is-number n (pos m) e = ap pos (eqb-true m n e)
 is-number n (negsuc m) e = absurd (false≢true e)
 
@@ -220,9 +220,9 @@ settled-numbers r w =
 
 -- ---- the whole step
 
-four-places : (r : Record) (w : Arrived) → length (placed r w .after .places) ≡ length (r .places)
+as-many-places : (r : Record) (w : Arrived) → length (placed r w .after .places) ≡ length (r .places)
 unfolding placed
-four-places r w =
+as-many-places r w =
     either (λ (p : Placed). length (p .after .places) ≡ length (r .places))
     (nextOne r w)
     (record { after = withNumbers r (w .total) (w .reliable); fate = fate.Delivered })
@@ -242,5 +242,5 @@ in-turn r w four fresh =
     let p = placed h w in
     let stand = settled-numbers (released (p .after) .after) w in
     rw (stand .0, stand .1)
-    (released-in-turn (p .after) (four-places h w ∙ four) (r .total) (r .reliable) (itself (p .fate) w)
+    (released-in-turn (p .after) (as-many-places h w ∙ four) (r .total) (r .reliable) (itself (p .fate) w)
     (placed-in-turn h w (fresh-total r (w .reliably) (w .total) (w .reliable) fresh)))

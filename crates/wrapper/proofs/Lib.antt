@@ -7,3 +7,4 @@ pub mod Settling
 pub mod Stepping
 pub mod ReleaseIsDone
 pub mod InTurn
+pub mod Stays

@@ -92,10 +92,3 @@ leaves ContentsOver m c r = r
 
 unfoldable pub roomAfter : Message → List ℕ → List ℕ → List ℕ
 roomAfter m c r = leaves (wrote m c r) m c r
-
--- 01's number of a refusal, and 0 where nothing is refused
-abbrev pub numberOf : Wrote → ℕ
-numberOf (Octets n) = 0
-numberOf NoForm = 4
-numberOf NoRoom = 1
-numberOf ContentsOver = 7
