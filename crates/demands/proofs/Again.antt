@@ -24,14 +24,14 @@ use Rattle.writing.specs.Writing.{vectorOf, addressOf as addressType, hasForm, 
 
 -- ---- parts of data
 
-octets-take : (n : ℕ) (s : List ℕ) → Octets s → Octets (take n s)
+pub octets-take : (n : ℕ) (s : List ℕ) → Octets s → Octets (take n s)
 unfolding Octets
 octets-take zero s o i = lit< tt
 octets-take (suc n) [] o i = lit< tt
 octets-take (suc n) (x ∷ s) o zero = o 0
 octets-take (suc n) (x ∷ s) o (suc i) = octets-take n s (octets-tail x s o) i
 
-octets-drop : (at : ℕ) (s : List ℕ) → Octets s → Octets (drop at s)
+pub octets-drop : (at : ℕ) (s : List ℕ) → Octets s → Octets (drop at s)
 unfolding Octets
 octets-drop at s o i = rw getD-drop (o (at + i))
 

@@ -1,0 +1,64 @@
+-- Checks in an order: the number that is given is that of the first one that holds (01, "Refusal numbers").
+use Prim.Native.Nat.{ℕ}
+use mathlib.Core.Path.{_≡_, refl, sym}
+use mathlib.Core.Bool.{Bool, true, false, cond}
+use mathlib.Core.List.{List, [], _∷_}
+
+-- a refusal's number, and whether its condition holds
+pub record Check : Type 0 where
+  pub number : ℕ
+  pub holds : Bool
+
+-- the number of the first check that holds; 0 if none does
+unfoldable pub firstOf : List Check → ℕ
+firstOf [] = 0
+firstOf (c ∷ cs) = cond (c .holds) (c .number) (firstOf cs)
+
+-- the condition of number n holds, and no earlier one
+pub data First (n : ℕ) : List Check → Type 0 where
+  here : (cs : List Check) → First n (record { number = n; holds = true } ∷ cs)
+  later : (m : ℕ) (cs : List Check) → First n cs → First n (record { number = m; holds = false } ∷ cs)
+
+-- no condition holds
+pub data None : List Check → Type 0 where
+  none : None []
+  also : (m : ℕ) (cs : List Check) → None cs → None (record { number = m; holds = false } ∷ cs)
+
+-- no number of a refusal is 0
+pub data Numbered : List Check → Type 0 where
+  empty : Numbered []
+  numbered : (m : ℕ) (b : Bool) (cs : List Check) → (m ≡ 0 → ⊥) → Numbered cs → Numbered (record { number = m; holds = b } ∷ cs)
+
+-- ---- a number is given exactly if its condition holds and no earlier one does
+
+pub first-is-given : (n : ℕ) (cs : List Check) → First n cs → firstOf cs ≡ n
+unfolding firstOf
+first-is-given n cs (here ds) = refl
+first-is-given n cs (later m ds f) = first-is-given n ds f
+
+first-by : (n m : ℕ) (b : Bool) (cs : List Check) → (firstOf cs ≡ n → First n cs) → cond b m (firstOf cs) ≡ n
+    → First n (record { number = m; holds = b } ∷ cs)
+first-by n m true cs rest e = rw e (here cs)
+first-by n m false cs rest e = later m cs (rest e)
+
+pub given-is-first : (n : ℕ) (cs : List Check) → (n ≡ 0 → ⊥) → firstOf cs ≡ n → First n cs
+unfolding firstOf
+given-is-first n [] z e = absurd (z (sym e))
+given-is-first n (c ∷ cs) z e = first-by n (c .number) (c .holds) cs (given-is-first n cs z) e
+
+-- ---- and nothing is refused exactly if no condition holds
+
+pub none-is-given : (cs : List Check) → None cs → firstOf cs ≡ 0
+unfolding firstOf
+none-is-given cs none = refl
+none-is-given cs (also m ds f) = none-is-given ds f
+
+none-by : (m : ℕ) (b : Bool) (cs : List Check) → (m ≡ 0 → ⊥) → (firstOf cs ≡ 0 → None cs) → cond b m (firstOf cs) ≡ 0
+    → None (record { number = m; holds = b } ∷ cs)
+none-by m true cs z rest e = absurd (z e)
+none-by m false cs z rest e = also m cs (rest e)
+
+pub given-is-none : (cs : List Check) → Numbered cs → firstOf cs ≡ 0 → None cs
+unfolding firstOf
+given-is-none cs empty e = none
+given-is-none cs (numbered m b ds z n) e = none-by m b ds z (λ f. given-is-none ds n f) e

@@ -1,0 +1,366 @@
+-- Demand 1 of the order, its refusals: each call over the table gives the number of the first condition, in that call's order, that holds
+-- (`message-number`, `elapsed-number`, `leave-number`), and a refusal leaves the table and every lent octet as before (`message-leaves`,
+-- `elapsed-leaves`, `leave-leaves`). That this is "exactly if", both ways, is `given-is-first` and `first-is-given` of Checks. Each condition
+-- stands by itself under the words of 01's table of numbers. Assumes nothing.
+use Prim.Native.Nat.{ℕ, _+_, _*_}
+use mathlib.Core.Path.{_≡_, refl, sym, ap, _∙_}
+use mathlib.Core.Bool.{Bool, true, false, cond, not, _&&_, _||_}
+use mathlib.Core.List.{List, [], _∷_, map}
+use lib.ListN.{length, getD}
+use lib.Dec.{ltb, eqb}
+use borrow.Author.Tests.{eqb-true}
+use Rattle.octets.specs.Octets.{numberAt, splice}
+use Rattle.octets.proofs.Writes.{splice-nothing}
+use Rattle.message.specs.Lengths.{reliableWrapper, unreliableWrapper, join, joinRefuse, joinAccept, leaving, ack, nak}
+use Rattle.message.specs.Layouts.{reliable, cidAt, membershipOf, wrapperOf, joinOf}
+use Rattle.message.specs.Reading.{readable, messageOf, fixedOf, readMessage, contents}
+use Rattle.message.specs.declared.Cid.{Cid}
+use Rattle.message.specs.declared.Join.{Join}
+use Rattle.message.specs.declared.Message.the-variants as message
+use Rattle.message.specs.declared.Wrapper.{Wrapper}
+use Rattle.message.specs.declared.MessageRead.the-variants as read
+use Rattle.record.specs.Reasons.{leavingReason}
+use Rattle.record.specs.WellFormed.{mostContents}
+use Rattle.record.specs.declared.Record.{Record}
+use Rattle.wrapper.specs.Judge.{judged}
+use Rattle.wrapper.specs.Taken.{steppedBy, stepped}
+use Rattle.wrapper.specs.declared.Arrived.{Arrived}
+use Rattle.wrapper.specs.declared.Judged.{Judged}
+use Rattle.wrapper.specs.declared.Judged.the-variants as judging
+use Rattle.gap.specs.Elapsed.{gives}
+use Rattle.gap.specs.declared.Event.the-variants as event
+use Rattle.sending.specs.Sent.{eventOf}
+use Rattle.carry.specs.Carried.{deliverFrom}
+use Rattle.table.specs.Table.{same, found, tableFormed, recordAt, blank}
+use Rattle.table.specs.declared.Found.{Found}
+use Rattle.table.specs.declared.Found.the-variants as search
+use Rattle.asking.specs.Asking.{arrivedOf, wrapperFor, wrapperAsks, joinAsks, messageAsks, readAsks, askedOf}
+use Rattle.asking.specs.declared.Asked.the-variants as asked
+use Rattle.member.specs.Sizes.{cellSize, messageSizes, elapsedSizes, leaveSizes}
+use Rattle.member.specs.Messages.{Outcome, isFound, refusedMessage, joinOutcome, planOutcome, steppedOutcome, wrapperOutcome, askedOutcome, messageOutcome, numberOf, messaged, deliverAfter, replyAfter}
+use Rattle.member.specs.Elapsing.{longest, Passing, refusedElapsed, passing, elapsedOutcome, passed, cellsFrom, cellsAfter}
+use Rattle.member.specs.Leaving.{Departing, refusedLeave, departing, leaveFor, leaveOutcome, leftReply}
+use Rattle.member.specs.declared.Given.{Given}
+use Rattle.member.specs.declared.Given.the-variants as given
+use Rattle.demands.proofs.Checks.{Check, firstOf}
+
+-- ---- the conditions
+
+abbrev pub check : ℕ → Bool → Check
+check n b = record { number = n; holds = b }
+
+-- 4: no base message that is built, or its data has a length or an address form that is not listed. An ACK is wrapped
+abbrev pub unreadable : ℕ → List ℕ → Bool
+unreadable v d = eqb v ack || not (readable v d)
+
+abbrev pub isWrapper : ℕ → Bool
+isWrapper v = eqb v reliableWrapper || eqb v unreliableWrapper
+
+-- 5: no wrapper, and no Join that names our component
+abbrev pub notForUs : List ℕ → ℕ → List ℕ → Bool
+notForUs ours v d = not (isWrapper v) && not (eqb v join && same (joinOf d .cid) (cidAt ours 0))
+
+-- where the table has the channel that a wrapper names
+abbrev pub ownPlace : List Record → List ℕ → List ℕ → Found
+ownPlace ts sender d = found 0 (cidAt sender 0) (wrapperOf d .channel) ts
+
+-- 6: a wrapper whose owner and channel no record has
+abbrev pub noRecord : List Record → List ℕ → ℕ → List ℕ → Bool
+noRecord ts sender v d = isWrapper v && not (isFound (ownPlace ts sender d))
+
+-- 7: a wrapper with contents over 1,454
+abbrev pub tooLong : ℕ → List ℕ → Bool
+tooLong v d = isWrapper v && ltb mostContents (length (contents d))
+
+abbrev pub recordOf : List Record → Found → Record
+recordOf ts (search.At i) = recordAt ts i
+recordOf ts search.Nowhere = blank []
+
+-- step 1 of the wrapper on its own record
+abbrev pub judgement : List Record → List ℕ → ℕ → List ℕ → Judged
+judgement ts sender v d =
+    judged (recordOf ts (ownPlace ts sender d)) (eqb v reliableWrapper) (wrapperOf d .total) (wrapperOf d .reliable)
+
+abbrev pub isOld : Judged → Bool
+isOld judging.Old = true
+isOld judging.Inconsistent = false
+isOld judging.Fresh = false
+
+abbrev pub isInconsistent : Judged → Bool
+isInconsistent judging.Old = false
+isInconsistent judging.Inconsistent = true
+isInconsistent judging.Fresh = false
+
+-- a message call checks 1, 2 and 4 to 9
+abbrev pub messageChecks : List Record → List ℕ → ℕ → ℕ → List ℕ → List ℕ → ℕ → List ℕ → List Check
+messageChecks ts held deliver reply sender ours v d =
+    check 1 (not (messageSizes (length ts) (length held) deliver reply (length sender) (length ours)))
+    ∷ check 2 (not (tableFormed ts))
+    ∷ check 4 (unreadable v d)
+    ∷ check 5 (notForUs ours v d)
+    ∷ check 6 (noRecord ts sender v d)
+    ∷ check 7 (tooLong v d)
+    ∷ check 8 (isWrapper v && isOld (judgement ts sender v d))
+    ∷ check 9 (isWrapper v && isInconsistent (judgement ts sender v d))
+    ∷ []
+
+-- an elapsed call checks 1, 2, 3
+abbrev pub elapsedChecks : List Record → ℕ → ℕ → List Check
+elapsedChecks ts cells ms =
+    check 1 (not (elapsedSizes (length ts) cells)) ∷ check 2 (not (tableFormed ts)) ∷ check 3 (ltb longest ms) ∷ []
+
+-- a leave call checks 1, 2, 6, 10
+abbrev pub leaveChecks : List Record → ℕ → List ℕ → ℕ → ℕ → List Check
+leaveChecks ts reply owner channel reason =
+    check 1 (not (leaveSizes (length ts) reply (length owner)))
+    ∷ check 2 (not (tableFormed ts))
+    ∷ check 6 (not (isFound (found 0 (cidAt owner 0) channel ts)))
+    ∷ check 10 (not (leavingReason reason))
+    ∷ []
+
+-- ---- elapsed and leave calls
+
+-- refused by a number with everything as before, or accepted
+pub data Elapsed (ts : List Record) : ℕ → Passing → Type 0 where
+  refused : (n : ℕ) → Elapsed ts n (refusedElapsed ts n)
+  accepted : (p : Passing) → p .number ≡ 0 → Elapsed ts 0 p
+
+elapsed-told : (ts : List Record) (cells ms : ℕ) → Elapsed ts (firstOf (elapsedChecks ts cells ms)) (elapsedOutcome ts cells ms)
+unfolding elapsedOutcome firstOf
+elapsed-told ts cells ms = by (not (elapsedSizes (length ts) cells)) (not (tableFormed ts)) (ltb longest ms)
+  where
+    by : (a b c : Bool)
+        → Elapsed ts (firstOf (check 1 a ∷ check 2 b ∷ check 3 c ∷ []))
+        (cond a (refusedElapsed ts 1) (cond b (refusedElapsed ts 2) (cond c (refusedElapsed ts 3) (passing ts ms))))
+    by true b c = refused 1
+    by false true c = refused 2
+    by false false true = refused 3
+    by false false false = accepted _ refl
+
+-- the number of an elapsed call is that of the first condition that holds, or 0
+pub elapsed-number : (ts : List Record) (cells ms : ℕ) → elapsedOutcome ts cells ms .number ≡ firstOf (elapsedChecks ts cells ms)
+elapsed-number ts cells ms = by (elapsed-told ts cells ms)
+  where
+    by : {k : ℕ} {p : Passing} → Elapsed ts k p → p .number ≡ k
+    by (refused n) = refl
+    by (accepted p e) = e
+
+-- records that stand make the table that was, and what they send leaves the cells
+pub standing : (ts : List Record) → map (λ e. e .after) (map (λ r. gives r event.Nothing) ts) ≡ ts
+standing [] = refl
+standing (r ∷ ts) = ap (λ us. r ∷ us) (standing ts)
+
+silent : (ts : List Record) (i : ℕ) (room : List ℕ) → cellsFrom i (map (λ r. gives r event.Nothing) ts) room ≡ room
+unfolding cellsFrom eventOf
+silent [] i room = refl
+silent (r ∷ ts) i room =
+    ap (λ after. cellsFrom (i + 1) (map (λ r. gives r event.Nothing) ts) after) (sym (splice-nothing room (i * cellSize))) ∙ silent ts (i + 1) room
+
+-- a refused elapsed call leaves the table and every octet of the cells
+pub elapsed-leaves : (ts : List Record) (cells ms : ℕ) (room : List ℕ) → (firstOf (elapsedChecks ts cells ms) ≡ 0 → ⊥)
+    → (passed (elapsedOutcome ts cells ms) .table ≡ ts) × (cellsAfter (elapsedOutcome ts cells ms) room ≡ room)
+elapsed-leaves ts cells ms room z = by (elapsed-told ts cells ms) z
+  where
+    by : {k : ℕ} {p : Passing} → Elapsed ts k p → (k ≡ 0 → ⊥) → (passed p .table ≡ ts) × (cellsAfter p room ≡ room)
+    by (refused n) z = (standing ts, silent ts 0 room)
+    by (accepted p e) z = absurd (z refl)
+
+pub data Left (ts : List Record) : ℕ → Departing → Type 0 where
+  refused : (n : ℕ) → Left ts n (refusedLeave ts n)
+  accepted : (p : Departing) → p .number ≡ 0 → Left ts 0 p
+
+leave-told : (ts : List Record) (reply : ℕ) (owner : List ℕ) (channel reason : ℕ)
+    → Left ts (firstOf (leaveChecks ts reply owner channel reason)) (leaveOutcome ts reply owner channel reason)
+unfolding leaveOutcome departing firstOf
+leave-told ts reply owner channel reason =
+    by (not (leaveSizes (length ts) reply (length owner))) (not (tableFormed ts)) (found 0 (cidAt owner 0) channel ts) (leavingReason reason) refl
+  where
+    by : (a b : Bool) (f : Found) (c : Bool) → leavingReason reason ≡ c
+        → Left ts (firstOf (check 1 a ∷ check 2 b ∷ check 6 (not (isFound f)) ∷ check 10 (not c) ∷ []))
+        (cond a (refusedLeave ts 1) (cond b (refusedLeave ts 2) (leaveFor ts reason f)))
+    by true b f c e = refused 1
+    by false true f c e = refused 2
+    by false false search.Nowhere c e = refused 6
+    by false false (search.At i) false e = rw e (refused 10)
+    by false false (search.At i) true e = rw e (accepted _ refl)
+
+-- the number of a leave call is that of the first condition that holds, or 0
+pub leave-number : (ts : List Record) (reply : ℕ) (owner : List ℕ) (channel reason : ℕ)
+    → leaveOutcome ts reply owner channel reason .number ≡ firstOf (leaveChecks ts reply owner channel reason)
+leave-number ts reply owner channel reason = by (leave-told ts reply owner channel reason)
+  where
+    by : {k : ℕ} {p : Departing} → Left ts k p → p .number ≡ k
+    by (refused n) = refl
+    by (accepted p e) = e
+
+-- a refused leave call leaves the table and every octet of the reply room
+pub leave-leaves : (ts : List Record) (reply : ℕ) (owner : List ℕ) (channel reason : ℕ) (room : List ℕ)
+    → (firstOf (leaveChecks ts reply owner channel reason) ≡ 0 → ⊥)
+    → (leaveOutcome ts reply owner channel reason .table ≡ ts) × (leftReply (leaveOutcome ts reply owner channel reason) room ≡ room)
+leave-leaves ts reply owner channel reason room z = by (leave-told ts reply owner channel reason) z
+  where
+    by : {k : ℕ} {p : Departing} → Left ts k p → (k ≡ 0 → ⊥) → (p .table ≡ ts) × (leftReply p room ≡ room)
+    by (refused n) z = (refl, sym (splice-nothing room 0))
+    by (accepted p e) z = absurd (z refl)
+
+-- ---- a message call
+
+-- a call that is refused by a number, with everything as before, or one that is accepted
+pub data Told (ts : List Record) (held : List ℕ) : ℕ → Outcome → Type 0 where
+  refused : (n : ℕ) → Told ts held n (refusedMessage ts held n)
+  accepted : (o : Outcome) → numberOf (o .given) ≡ 0 → Told ts held 0 o
+
+module _ (ts : List Record) (held : List ℕ) (s : Cid) (n : ℕ) (c : List ℕ) where
+  -- 8 and 9: the step's own
+  judged-told : (i : ℕ) (w : Arrived) (j : Judged)
+      → Told ts held (firstOf (check 8 (isOld j) ∷ check 9 (isInconsistent j) ∷ []))
+      (steppedOutcome ts held i w c (steppedBy j (recordAt ts i) w))
+  unfolding firstOf planOutcome
+  judged-told i w judging.Old = refused 8
+  judged-told i w judging.Inconsistent = refused 9
+  judged-told i w judging.Fresh = accepted _ refl
+
+  -- 6 to 9: a wrapper
+  wrapper-told : (f : Found) (reliably : Bool) (w : Wrapper) (len : ℕ) (over : Bool) → ltb mostContents len ≡ over
+      → Told ts held
+      (firstOf
+      (check 6 (not (isFound f))
+      ∷ check 7 over
+      ∷ check 8 (isOld (judged (recordOf ts f) reliably (w .total) (w .reliable)))
+      ∷ check 9 (isInconsistent (judged (recordOf ts f) reliably (w .total) (w .reliable)))
+      ∷ []))
+      (askedOutcome ts held s n c (wrapperFor f reliably w len))
+  unfolding firstOf wrapperOutcome stepped
+  wrapper-told search.Nowhere reliably w len over e = refused 6
+  wrapper-told (search.At i) reliably w len true e = rw e (refused 7)
+  wrapper-told (search.At i) reliably w len false e =
+      rw e (judged-told i (arrivedOf reliably w len) (judged (recordAt ts i) reliably (w .total) (w .reliable)))
+
+  -- 5: neither wrapper nor Join, nor an ACK
+  fixed-asks : (o : Cid) (v : ℕ) (d : List ℕ) (len : ℕ) → eqb v ack ≡ false → messageAsks ts s o (fixedOf v d) len ≡ asked.Refused 5
+  unfolding fixedOf
+  fixed-asks o v d len e = rw e (by (eqb v joinRefuse) (eqb v joinAccept) (eqb v leaving) (eqb v nak))
+    where
+      by : (a b c f : Bool)
+          → messageAsks ts s o
+          (cond a (message.JoinRefuse (membershipOf d) (getD d 24 0))
+          (cond b (message.JoinAccept (membershipOf d) (numberAt d 24 2))
+          (cond c (message.Leaving (membershipOf d) (getD d 24 0))
+          (cond f (message.Nak (membershipOf d) (reliable (numberAt d 24 4)) (reliable (numberAt d 28 4)))
+          (message.GetSessions (cidAt d 0))))))
+          len
+          ≡ asked.Refused 5
+      by true b c f = refl
+      by false true c f = refl
+      by false false true f = refl
+      by false false false true = refl
+      by false false false false = refl
+
+  -- 4: an ACK, whether it is readable or not
+  ack-told : (o : Cid) (d : List ℕ) (len : ℕ) (b : Bool)
+      → Told ts held 4 (askedOutcome ts held s n c (readAsks ts s o (cond b (read.Read (messageOf ack d)) read.Unreadable) len))
+  unfolding messageOf fixedOf
+  ack-told o d len true = refused 4
+  ack-told o d len false = refused 4
+
+  -- 5: a Join for another component
+  join-told : (o : Cid) (j : Join) (ours : Bool) → same (j .cid) o ≡ ours → Told ts held (cond ours 0 5) (askedOutcome ts held s n c (joinAsks o j))
+  unfolding joinAsks joinOutcome
+  join-told o j true e = rw e (accepted _ refl)
+  join-told o j false e = rw e (refused 5)
+
+  -- 4 to 9, by what the vector is
+  asked-told : (o : Cid) (v : ℕ) (d : List ℕ)
+      → Told ts held
+      (firstOf
+      (check 4 (unreadable v d)
+      ∷ check 5 (not (isWrapper v) && not (eqb v join && same (joinOf d .cid) o))
+      ∷ check 6 (isWrapper v && not (isFound (found 0 s (wrapperOf d .channel) ts)))
+      ∷ check 7 (tooLong v d)
+      ∷ check 8 (isWrapper v && isOld (judged (recordOf ts (found 0 s (wrapperOf d .channel) ts)) (eqb v reliableWrapper) (wrapperOf d .total) (wrapperOf d .reliable)))
+      ∷ check 9 (isWrapper v && isInconsistent (judged (recordOf ts (found 0 s (wrapperOf d .channel) ts)) (eqb v reliableWrapper) (wrapperOf d .total) (wrapperOf d .reliable)))
+      ∷ []))
+      (askedOutcome ts held s n c (askedOf ts s o v d))
+  unfolding askedOf readMessage messageOf firstOf wrapperAsks
+  asked-told o v d = split (eqb v ack) refl
+    where
+      f : Found
+      f = found 0 s (wrapperOf d .channel) ts
+
+      by : eqb v ack ≡ false → (r x y z q : Bool) → same (joinOf d .cid) o ≡ q
+          → Told ts held
+          (firstOf
+          (check 4 (not r)
+          ∷ check 5 (not (x || y) && not (z && q))
+          ∷ check 6 ((x || y) && not (isFound f))
+          ∷ check 7 ((x || y) && ltb mostContents (length (contents d)))
+          ∷ check 8 ((x || y) && isOld (judged (recordOf ts f) x (wrapperOf d .total) (wrapperOf d .reliable)))
+          ∷ check 9 ((x || y) && isInconsistent (judged (recordOf ts f) x (wrapperOf d .total) (wrapperOf d .reliable)))
+          ∷ []))
+          (askedOutcome ts held s n c
+          (readAsks ts s o
+          (cond r (read.Read (cond x (message.ReliableWrapper (wrapperOf d)) (cond y (message.UnreliableWrapper (wrapperOf d)) (cond z (message.Join (joinOf d)) (fixedOf v d))))) read.Unreadable)
+          (length (contents d))))
+      by a false x y z q e = refused 4
+      by a true true y z q e = wrapper-told f true (wrapperOf d) (length (contents d)) (ltb mostContents (length (contents d))) refl
+      by a true false true z q e = wrapper-told f false (wrapperOf d) (length (contents d)) (ltb mostContents (length (contents d))) refl
+      by a true false false true true e = join-told o (joinOf d) true e
+      by a true false false true false e = join-told o (joinOf d) false e
+      by a true false false false q e = rw (fixed-asks o v d (length (contents d)) a) (refused 5)
+
+      split : (b : Bool) → eqb v ack ≡ b
+          → Told ts held
+          (firstOf
+          (check 4 (b || not (readable v d))
+          ∷ check 5 (not (isWrapper v) && not (eqb v join && same (joinOf d .cid) o))
+          ∷ check 6 (isWrapper v && not (isFound f))
+          ∷ check 7 (tooLong v d)
+          ∷ check 8 (isWrapper v && isOld (judged (recordOf ts f) (eqb v reliableWrapper) (wrapperOf d .total) (wrapperOf d .reliable)))
+          ∷ check 9 (isWrapper v && isInconsistent (judged (recordOf ts f) (eqb v reliableWrapper) (wrapperOf d .total) (wrapperOf d .reliable)))
+          ∷ []))
+          (askedOutcome ts held s n c (askedOf ts s o v d))
+      split true e = let v-is : v ≡ ack = eqb-true v ack e in rw v-is (ack-told o d (length (contents d)) (readable ack d))
+      split false e =
+          by e (readable v d) (eqb v reliableWrapper) (eqb v unreliableWrapper) (eqb v join) (same (joinOf d .cid) o) refl
+
+pub message-told : (ts : List Record) (held : List ℕ) (deliver reply : ℕ) (sender ours : List ℕ) (v : ℕ) (d : List ℕ) (n : ℕ)
+    → Told ts held (firstOf (messageChecks ts held deliver reply sender ours v d)) (messageOutcome ts held deliver reply sender ours v d n)
+unfolding messageOutcome firstOf
+message-told ts held deliver reply sender ours v d n =
+    by (not (messageSizes (length ts) (length held) deliver reply (length sender) (length ours))) (not (tableFormed ts)) _ _
+    (asked-told ts held (cidAt sender 0) n (contents d) (cidAt ours 0) v d)
+  where
+    by : (a b : Bool) (k : ℕ) (o : Outcome) → Told ts held k o
+        → Told ts held (cond a 1 (cond b 2 k)) (cond a (refusedMessage ts held 1) (cond b (refusedMessage ts held 2) o))
+    by true b k o t = refused 1
+    by false true k o t = refused 2
+    by false false k o t = t
+
+told-number : (ts : List Record) (held : List ℕ) (k : ℕ) (o : Outcome) → Told ts held k o → numberOf (o .given) ≡ k
+told-number ts held k o (refused n) = refl
+told-number ts held k o (accepted p e) = e
+
+-- the number of a message call is that of the first condition that holds, or 0
+pub message-number : (ts : List Record) (held : List ℕ) (deliver reply : ℕ) (sender ours : List ℕ) (v : ℕ) (d : List ℕ) (n : ℕ)
+    → numberOf (messageOutcome ts held deliver reply sender ours v d n .given) ≡ firstOf (messageChecks ts held deliver reply sender ours v d)
+message-number ts held deliver reply sender ours v d n = told-number ts held _ _ (message-told ts held deliver reply sender ours v d n)
+
+-- everything as before: the table, the held octets, and every octet of the two rooms; and the answer is the number alone
+pub record Stands (ts : List Record) (h dr rr : List ℕ) (number : ℕ) (out : Outcome) : Type 0 where
+  pub table : out .table ≡ ts
+  pub held : out .held ≡ h
+  pub deliver : deliverAfter out dr ≡ dr
+  pub reply : replyAfter out rr ≡ rr
+  pub answer : messaged out ≡ messaged (refusedMessage ts [] number)
+
+-- a refused message call leaves everything
+pub message-leaves : (ts : List Record) (held deliver reply sender ours : List ℕ) (v : ℕ) (d : List ℕ) (n : ℕ)
+    → (firstOf (messageChecks ts held (length deliver) (length reply) sender ours v d) ≡ 0 → ⊥)
+    → Stands ts held deliver reply (firstOf (messageChecks ts held (length deliver) (length reply) sender ours v d))
+    (messageOutcome ts held (length deliver) (length reply) sender ours v d n)
+unfolding deliverFrom
+message-leaves ts held deliver reply sender ours v d n z = by (message-told ts held (length deliver) (length reply) sender ours v d n) z
+  where
+    by : {k : ℕ} {out : Outcome} → Told ts held k out → (k ≡ 0 → ⊥) → Stands ts held deliver reply k out
+    by (refused k) z = record { table = refl; held = refl; deliver = refl; reply = sym (splice-nothing reply 0); answer = refl }
+    by (accepted p e) z = absurd (z refl)

@@ -1,0 +1,4 @@
+pub mod Sizes
+pub mod Messages
+pub mod Elapsing
+pub mod Leaving
