@@ -1,8 +1,8 @@
 -- A gap ends (01, "One channel"): counted from the call in which a channel's gap begins, once accepted elapsed times sum past
 -- NAK_MAX_RETRIES times (maxwait + NAK_TIMEOUT + 2,000) the channel has been without a gap or is left, whatever other calls lie between.
-use Prim.Native.Nat.{ℕ, suc, _+_, _-_, _*_, _<_, _≤_}
+use Prim.Native.Nat.{ℕ, _+_, _-_, _*_, _<_, _≤_}
 use mathlib.Core.Bool.{Bool, true, false, false≢true, not, _||_, and-eq-true-iff}
-use mathlib.Core.List.{List, [], _∷_}
+use mathlib.Core.List.{List, _∷_}
 use mathlib.Core.Path.{_≡_, refl, sym, ap, subst, _∙_}
 use mathlib.Core.Logic.{_≢_}
 use native.Mathlib.Nat.{suc-mul, sub-zero}
@@ -19,7 +19,6 @@ use Rattle.record.specs.declared.Record.{Record}
 use Rattle.record.specs.declared.Terms.{Terms}
 use Rattle.record.proofs.Formed.{Phase, formed, quiet-exactly}
 use Rattle.gap.specs.Standoff.{standoffOf}
-use Rattle.gap.specs.Elapsed.{elapsedOf}
 use Rattle.gap.specs.declared.Elapsed.{Elapsed}
 use Rattle.gap.specs.declared.Event.{Event}
 use Rattle.gap.proofs.Moves.{Next, quiet, stands-on, asks, waits-on, once-more, Move, stands, expires, lost, goes-on, moves}
@@ -29,14 +28,13 @@ use Rattle.wrapper.specs.Hold.{placed}
 use Rattle.wrapper.specs.Release.{released}
 use Rattle.wrapper.specs.Settle.{begun}
 use Rattle.wrapper.specs.Taken.{taken}
-use Rattle.wrapper.specs.declared.Arrived.{Arrived}
-use Rattle.table.specs.Table.{named, recordAt}
+use Rattle.table.specs.Table.{named}
 use Rattle.table.proofs.Tables as tables
 use Rattle.member.specs.Sizes.{tableSize, elapsedSizes}
 use Rattle.member.specs.Elapsing.{longest}
 use Rattle.demands.specs.Runs.{Came, run, ownOf, shown}
 use Rattle.demands.specs.Calls as calls
-use Rattle.demands.specs.Calls.{Call, State, tableStep, Lawful, Right}
+use Rattle.demands.specs.Calls.{Call, State, tableStep, Lawful}
 use Rattle.demands.specs.Channel.{Channel, Told, own, one, live, channelAt, viewAt, planned, elapsedOn}
 use Rattle.demands.specs.Order.{over, everOver, timeOf, timeIn, bound}
 use Rattle.demands.proofs.Running.{Each, Own, along}

@@ -6,7 +6,6 @@ use mathlib.Core.Path.{_≡_, refl, sym, ap, _∙_}
 use Rattle.counter.specs.declared.Reliable.{Reliable}
 use Rattle.record.specs.With.{freed, withGap, withAcked, withNumbers}
 use Rattle.record.specs.WellFormed.{closed}
-use Rattle.record.specs.declared.Gap.{Gap}
 use Rattle.record.specs.declared.Gap.the-variants as gap
 use Rattle.record.specs.declared.Record.{Record}
 use Rattle.gap.specs.Standoff.{standoffOf}
@@ -17,7 +16,6 @@ use Rattle.wrapper.specs.Settle.{lost, begun, gapped, asked, spared, acknowledg
 use Rattle.wrapper.specs.Taken.{taken}
 use Rattle.wrapper.specs.declared.Arrived.{Arrived}
 use Rattle.wrapper.specs.declared.Gapped.{Gapped}
-use Rattle.wrapper.specs.declared.Placed.{Placed}
 use Rattle.wrapper.specs.declared.Released.{Released}
 use Rattle.wrapper.specs.declared.Reply.the-variants as reply
 use Rattle.wrapper.specs.declared.Search.{Search}

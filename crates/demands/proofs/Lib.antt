@@ -19,4 +19,8 @@ pub mod OneMessage
 pub mod OneCall
 pub mod Agreeing
 pub mod OwnStepsOnly
+pub mod Outcomes
+pub mod Frame
+pub mod RoomsSay
+pub mod OneOutcome
 pub mod GapEnds

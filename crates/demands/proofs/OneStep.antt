@@ -2,8 +2,8 @@
 -- leaves. Assumes nothing.
 use Prim.Native.Nat.{ℕ, _≤_}
 use mathlib.Core.Bool.{Bool, true, false, cond}
-use mathlib.Core.List.{List, []}
-use mathlib.Core.Path.{_≡_, refl, sym, _∙_}
+use mathlib.Core.List.{List}
+use mathlib.Core.Path.{_≡_, refl}
 use lib.Dec.{ltb, eqb}
 use lib.ListN.{length}
 use borrow.Author.Tests.{ltb-false}
@@ -15,7 +15,6 @@ use Rattle.message.specs.declared.Join.{Join}
 use Rattle.record.specs.Reasons.{leavingReason}
 use Rattle.record.specs.With.{freed}
 use Rattle.record.specs.WellFormed.{mostContents}
-use Rattle.record.specs.declared.Record.{Record}
 use Rattle.wrapper.specs.Judge.{judged}
 use Rattle.wrapper.specs.Taken.{taken, steppedBy, stepped}
 use Rattle.wrapper.specs.declared.Arrived.{Arrived}

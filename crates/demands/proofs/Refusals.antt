@@ -9,7 +9,7 @@ use mathlib.Core.List.{List, [], _∷_, map}
 use lib.ListN.{length, getD}
 use lib.Dec.{ltb, eqb}
 use borrow.Author.Tests.{eqb-true}
-use Rattle.octets.specs.Octets.{numberAt, splice}
+use Rattle.octets.specs.Octets.{numberAt}
 use Rattle.octets.proofs.Writes.{splice-nothing}
 use Rattle.message.specs.Lengths.{reliableWrapper, unreliableWrapper, join, joinRefuse, joinAccept, leaving, ack, nak}
 use Rattle.message.specs.Layouts.{reliable, cidAt, membershipOf, wrapperOf, joinOf}
@@ -40,8 +40,6 @@ use Rattle.member.specs.Sizes.{cellSize, messageSizes, elapsedSizes, leaveSizes
 use Rattle.member.specs.Messages.{Outcome, isFound, refusedMessage, joinOutcome, planOutcome, steppedOutcome, wrapperOutcome, askedOutcome, messageOutcome, numberOf, messaged, deliverAfter, replyAfter}
 use Rattle.member.specs.Elapsing.{longest, Passing, refusedElapsed, passing, elapsedOutcome, passed, cellsFrom, cellsAfter}
 use Rattle.member.specs.Leaving.{Departing, refusedLeave, departing, leaveFor, leaveOutcome, leftReply}
-use Rattle.member.specs.declared.Given.{Given}
-use Rattle.member.specs.declared.Given.the-variants as given
 use Rattle.demands.proofs.Checks.{Check, firstOf}
 
 -- ---- the conditions

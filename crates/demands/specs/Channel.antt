@@ -1,9 +1,9 @@
 -- One channel by itself: the record of an owner and a channel with the octets of its four places, and what its own calls do to it, put
 -- together from the steps of one channel (`stepped`, `elapsedOf`, `decided`, `freed`) and from nothing else.
 use Prim.Native.Nat.{ℕ, _*_}
-use mathlib.Core.Bool.{Bool, true, false, cond, not, _&&_, _||_}
+use mathlib.Core.Bool.{Bool, true, cond, not, _&&_, _||_}
 use mathlib.Core.List.{List, []}
-use lib.Dec.{ltb, leb, eqb}
+use lib.Dec.{ltb, eqb}
 use lib.ListN.{length, getD}
 use Rattle.octets.specs.Octets.{part}
 use Rattle.message.specs.Lengths.{reliableWrapper, unreliableWrapper, join}
@@ -31,7 +31,7 @@ use Rattle.table.specs.Table.{same, recordAt, blank}
 use Rattle.sending.specs.Sent.{sentOf, replyOf, eventOf, joinReplyOf}
 use Rattle.carry.specs.Carried.{Delivered, placeAt, heldAfter, deliveredBy}
 use Rattle.asking.specs.Asking.{arrivedOf}
-use Rattle.member.specs.Sizes.{messageSizes, elapsedSizes, leaveSizes, tableSize, cellsSize, cidSize}
+use Rattle.member.specs.Sizes.{messageSizes, elapsedSizes, leaveSizes, tableSize, cidSize}
 use Rattle.member.specs.Elapsing.{longest, Passing, sentBy}
 use Rattle.member.specs.declared.Given.{Given}
 use Rattle.member.specs.declared.Given.the-variants as given

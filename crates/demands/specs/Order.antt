@@ -1,7 +1,7 @@
 -- What is said of the deliveries of a channel over a whole run (01, "One channel", steps 1, 3 and 4), and of the time that passes in it.
 use Prim.Native.Nat.{ℕ, zero, suc, _+_, _*_}
 use mathlib.Core.Bool.{Bool, true, false, cond, not, _||_}
-use mathlib.Core.List.{List, [], _∷_, _++_, map}
+use mathlib.Core.List.{List, [], _∷_, _++_}
 use mathlib.Core.Path.{_≡_}
 use lib.IntN.{pos}
 use lib.Signed.{leZ}
@@ -13,7 +13,6 @@ use Rattle.record.specs.Profile.{nakTimeout, maxRetries}
 use Rattle.record.specs.WellFormed.{closed}
 use Rattle.record.specs.declared.Terms.{Terms}
 use Rattle.carry.specs.Carried.{Delivered}
-use Rattle.carry.specs.declared.Delivery.{Delivery}
 use Rattle.demands.specs.Runs.{Came}
 use Rattle.demands.specs.Calls as calls
 use Rattle.demands.specs.Calls.{Call}
