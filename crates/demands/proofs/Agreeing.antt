@@ -55,7 +55,7 @@ either true m n k l p q = p refl
 either false m n k l p q = q refl
 
 -- elapsed time lets the places stand
-elapsed-places : (r : Record) (ms : ℕ) → elapsedOf r ms .after .places ≡ r .places
+pub elapsed-places : (r : Record) (ms : ℕ) → elapsedOf r ms .after .places ≡ r .places
 elapsed-places r ms = by (moves r ms)
   where
     by : {o : Elapsed} → Move r ms o → o .after .places ≡ r .places

@@ -165,7 +165,7 @@ join-short j (address.Ipv4 e p) = lit≤ tt
 join-short j (address.Other t) = lit≤ tt
 
 -- the vector is an octet, and the fields leave room for the contents in the twelve bits of a PDU's length
-short : (m : Message) → (vectorOf m < 256) × (length (fieldsOf m) ≤ 46)
+pub short : (m : Message) → (vectorOf m < 256) × (length (fieldsOf m) ≤ 46)
 unfolding vectorOf fieldsOf wrapperOctets membershipOctets cidOctets octets
 short (message.ReliableWrapper w) = (lit< tt, lit≤ tt)
 short (message.UnreliableWrapper w) = (lit< tt, lit≤ tt)

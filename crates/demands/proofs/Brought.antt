@@ -28,7 +28,7 @@ use Rattle.demands.proofs.Again.{octets-take, octets-drop}
 use Rattle.demands.proofs.Sounds.{either, Both}
 
 -- a number in n octets is below 256^n, whether or not all of them are there
-number-short : (d : List ℕ) (at n : ℕ) → Octets d → numberAt d at n < 256 ^ n
+pub number-short : (d : List ℕ) (at n : ℕ) → Octets d → numberAt d at n < 256 ^ n
 number-short d at n o =
     lt-of-lt-of-le
     (number-below (part d at n) (octets-take n (drop at d) (octets-drop at d o)))
@@ -53,7 +53,7 @@ Brings (asked.Join j) = Both (j .total) (j .reliable)
 Brings (asked.Wrapper i w) = Both (w .total) (w .reliable)
 
 module _ (v : ℕ) (d : List ℕ) (o : Octets d) where
-  wrapper-says : Both (wrapperOf d .total) (wrapperOf d .reliable)
+  pub wrapper-says : Both (wrapperOf d .total) (wrapperOf d .reliable)
   unfolding wrapperOf
   wrapper-says = (number-short d 2 4 o, number-short d 6 4 o)
 

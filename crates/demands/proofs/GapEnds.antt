@@ -1,18 +1,25 @@
 -- A gap ends (01, "One channel"): counted from the call in which a channel's gap begins, once accepted elapsed times sum past
--- NAK_MAX_RETRIES times (maxwait + NAK_TIMEOUT + 2,000) the channel has been without a gap or is left, whatever other calls lie between.
-use Prim.Native.Nat.{ℕ, _+_, _-_, _*_, _<_, _≤_}
+-- NAK_MAX_RETRIES times (maxwait + NAK_TIMEOUT + 2,000) the channel has been without a gap or is left, whatever other calls lie between (`gap-ends`).
+-- Assumes that the channel is joined in a right table and that the data of messages are octets; the example at the end meets all that is assumed.
+use Prim.Native.Nat.{ℕ, zero, suc, _+_, _-_, _*_, _<_, _≤_}
 use mathlib.Core.Bool.{Bool, true, false, false≢true, not, _||_, and-eq-true-iff}
-use mathlib.Core.List.{List, _∷_}
+use mathlib.Core.List.{List, [], _∷_}
 use mathlib.Core.Path.{_≡_, refl, sym, ap, subst, _∙_}
 use mathlib.Core.Logic.{_≢_}
 use native.Mathlib.Nat.{suc-mul, sub-zero}
 use native.Mathlib.Omega.{arith}
 use lib.Dec.{ltb, lit<}
+use lib.ListN.{replicate}
 use borrow.Author.Tests.{not-true, ltb-false, eqb-false, eqb-true}
-use Rattle.message.specs.Reading.{contents}
+use Rattle.octets.specs.Octets.{number}
+use Rattle.counter.specs.Distance.{distance}
+use Rattle.message.specs.Lengths.{look, lengthOf}
+use Rattle.message.specs.Layouts.{total, reliable, cidAt, wrapperOf}
+use Rattle.message.specs.Reading.{readable, contents}
 use Rattle.message.specs.declared.Cid.{Cid}
-use Rattle.record.specs.Profile.{nakTimeout, maxRetries}
-use Rattle.record.specs.WellFormed.{closed, wellFormed}
+use Rattle.record.specs.Legal.{legalNames, legalParameters}
+use Rattle.record.specs.Profile.{minExpiry, nakTimeoutFactor, nakTimeout, maxRetries}
+use Rattle.record.specs.WellFormed.{heldRight, apart, apartFrom, heldApart, heldAllRight, closed, gapRight, termsRight, wellFormed}
 use Rattle.record.specs.declared.Gap.{Gap}
 use Rattle.record.specs.declared.Gap.the-variants as gap
 use Rattle.record.specs.declared.Record.{Record}
@@ -23,24 +30,29 @@ use Rattle.gap.specs.declared.Elapsed.{Elapsed}
 use Rattle.gap.specs.declared.Event.{Event}
 use Rattle.gap.proofs.Moves.{Next, quiet, stands-on, asks, waits-on, once-more, Move, stands, expires, lost, goes-on, moves}
 use Rattle.gap.proofs.Stays.{standoff-most}
-use Rattle.wrapper.specs.Judge.{heard}
-use Rattle.wrapper.specs.Hold.{placed}
-use Rattle.wrapper.specs.Release.{released}
-use Rattle.wrapper.specs.Settle.{begun}
-use Rattle.wrapper.specs.Taken.{taken}
-use Rattle.table.specs.Table.{named}
+use Rattle.wrapper.specs.Judge.{consistent, judgedBy, judged, farther, heard}
+use Rattle.wrapper.specs.Hold.{nextOne, holds, lowestFree, placeFor, placed}
+use Rattle.wrapper.specs.Release.{nextHeld, releaseFrom, released}
+use Rattle.wrapper.specs.Settle as settle
+use Rattle.wrapper.specs.Settle.{begun, gapped, asked, spared, acknowledged, settled}
+use Rattle.wrapper.specs.Taken.{taken, stepped}
+use Rattle.table.specs.Table.{same, named, differs, tableFormed, freshPlace}
 use Rattle.table.proofs.Tables as tables
-use Rattle.member.specs.Sizes.{tableSize, elapsedSizes}
+use Rattle.member.specs.Sizes.{tableSize, messageSizes, elapsedSizes}
 use Rattle.member.specs.Elapsing.{longest}
 use Rattle.demands.specs.Runs.{Came, run, ownOf, shown}
 use Rattle.demands.specs.Calls as calls
-use Rattle.demands.specs.Calls.{Call, State, tableStep, Lawful}
-use Rattle.demands.specs.Channel.{Channel, Told, own, one, live, channelAt, viewAt, planned, elapsedOn}
+use Rattle.demands.specs.Calls.{Call, State, tableStep, Sound, Lawful}
+use Rattle.demands.specs.Channel.{Channel, Told, names, isCid, own, wrapperOn, one, live, channelAt, viewAt, planned, elapsedOn}
 use Rattle.demands.specs.Order.{over, everOver, timeOf, timeIn, bound}
-use Rattle.demands.proofs.Running.{Each, Own, along}
+use Rattle.demands.proofs.Running.{Each, none, more, Own, along}
 use Rattle.demands.proofs.Kept.{kept-before, terms-kept, gap-kept}
 use Rattle.demands.proofs.OneStep.{brought, Does, answers, wraps, passes, leaves, does}
 use Rattle.demands.proofs.OwnStepsOnly.{Joined, own-law}
+use Rattle.demands.proofs.OwnStepsOnly as example
+use Rattle.demands.proofs.Slabs.{slab}
+use Rattle.demands.proofs.Sounds.{sound-by}
+use Rattle.demands.proofs.Sample as sample
 
 -- ---- how much time a gap has left
 
@@ -224,3 +236,71 @@ gap-ends i owner channel s c cs lawful each joined shut begins past =
         on true q = refl
         on false q =
             next q (omega (arith, one-falls (channelAt i r) (does (channelAt i r) owner d) (own-time owner channel d e) (well-at j) o q, l))
+
+-- ---- an example: a quiet channel of the second owner in record 5 is at 10, and 12 comes before 11
+
+abbrev quietly : Record
+quietly =
+    record {
+      used = true;
+      terms = example.holding example.second .terms;
+      total = total 10;
+      reliable = reliable 10;
+      known = reliable 10;
+      acked = reliable 10;
+      idle = 0;
+      gap = gap.Quiet;
+      places = replicate 4 freshPlace;
+    }
+
+abbrev before : State
+before = example.stateOf quietly 0
+
+sound-quietly : Sound quietly
+sound-quietly = sound-by refl (lit< tt, lit< tt) (lit< tt) (lit< tt) (example.fresh-below 4)
+
+joined-quietly : Joined 5 example.second 7 before
+unfolding tableFormed
+    differs named same wellFormed termsRight legalNames legalParameters minExpiry distance heldAllRight heldRight heldApart apartFrom apart gapRight closed maxRetries
+joined-quietly = record { right = example.joined-in quietly 0 sound-quietly refl .right; has = refl }
+
+abbrev comes : Call
+comes = sample.wrapperCall (sample.cid 3 4) 12 (4 ∷ 5 ∷ 6 ∷ [])
+
+lawful-comes : Lawful comes
+lawful-comes = sample.lawful (sample.wrapperData 12 (4 ∷ 5 ∷ 6 ∷ [])) refl
+
+own-comes : own example.second 7 comes ≡ true
+unfolding own isCid cidAt number same names readable lengthOf look wrapperOf
+own-comes = refl
+
+-- the wrapper is held and the gap begins
+gap-begun : (held : List ℕ) → over (one example.second (record { at = quietly; held = held }) comes .state) ≡ false
+unfolding one messageSizes wrapperOn wrapperOf number stepped judged judgedBy consistent distance
+    taken heard farther placed nextOne placeFor holds lowestFree released releaseFrom nextHeld settled gapped settle.lost closed acknowledged asked spared planned
+gap-begun held = refl
+
+gap-follows : over (channelAt 5 (tableStep before comes .state)) ≡ false
+unfolding channelAt viewAt
+gap-follows =
+    ap (λ (m : Came Channel Told). over (m .state)) (own-law 5 example.second 7 .mine before comes joined-quietly lawful-comes own-comes)
+    ∙ gap-begun (slab 5 (example.heldOf 0))
+
+-- in a hundred times a second the channel is without a gap or left; the profile's numbers ask for fewer
+abbrev seconds : List Call
+seconds = replicate 100 (calls.elapsed 512 1000)
+
+lawful-seconds : Each Lawful seconds
+lawful-seconds = by 100
+  where
+    by : (n : ℕ) → Each Lawful (replicate n (calls.elapsed 512 1000))
+    by zero = none
+    by (suc n) = more tt (by n)
+
+time-enough : bound (quietly .terms) < timeIn (ownOf (own example.second 7) seconds)
+unfolding bound nakTimeout nakTimeoutFactor maxRetries timeIn ownOf own elapsedSizes
+time-enough = lit< tt
+
+it-ends : everOver (shown (own example.second 7) (viewAt 5) live (run tableStep (tableStep before comes .state) seconds)) ≡ true
+unfolding channelAt closed
+it-ends = gap-ends 5 example.second 7 before comes seconds lawful-comes lawful-seconds joined-quietly refl gap-follows time-enough

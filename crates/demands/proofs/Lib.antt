@@ -5,6 +5,7 @@ pub mod RoundTrip
 pub mod Examples
 pub mod Checks
 pub mod Refusals
+pub mod OneOutcome
 pub mod Running
 pub mod Kept
 pub mod OneStep
@@ -12,6 +13,9 @@ pub mod Sounds
 pub mod Brought
 pub mod TableStays
 pub mod Slabs
+pub mod Outcomes
+pub mod Frame
+pub mod RoomsSay
 pub mod Asks
 pub mod TermsStay
 pub mod Owned
@@ -19,8 +23,9 @@ pub mod OneMessage
 pub mod OneCall
 pub mod Agreeing
 pub mod OwnStepsOnly
-pub mod Outcomes
-pub mod Frame
-pub mod RoomsSay
-pub mod OneOutcome
+pub mod Sample
 pub mod GapEnds
+pub mod NothingInvented
+pub mod InTurn
+pub mod RepliesReadBack
+pub mod CallsReadBack

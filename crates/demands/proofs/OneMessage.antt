@@ -55,7 +55,7 @@ when b x y e = rw e
 
 -- ---- the octets lent
 
-lent-length : (n : ℕ) (held : List ℕ) → length (lentAs n held) ≡ n
+pub lent-length : (n : ℕ) (held : List ℕ) → length (lentAs n held) ≡ n
 lent-length n held = by (eqb n (length held)) refl
   where
     by : (b : Bool) → eqb n (length held) ≡ b → length (cond b held (replicate n 0)) ≡ n

@@ -13,7 +13,7 @@ use lib.ListN.{length, getD, replicate, length-replicate}
 use Rattle.octets.specs.Octets.{number, part, splice}
 use Rattle.octets.proofs.Numbers.{Octets}
 use Rattle.octets.proofs.Writes.{length-splice, part-splice}
-use Rattle.counter.specs.Distance.{turn, distance}
+use Rattle.counter.specs.Distance.{distance}
 use Rattle.message.specs.Layouts.{total, reliable, cidAt}
 use Rattle.message.specs.declared.Cid.{Cid}
 use Rattle.record.specs.Legal.{legalNames, legalParameters}
@@ -41,6 +41,7 @@ use Rattle.demands.specs.Calls.{Call, State, tableStep, Sound, Lawful, R
 use Rattle.demands.specs.Channel.{Channel, Told, passed, isCid, own, elapsedOn, one, live, channelAt, viewAt}
 use Rattle.demands.proofs.Running.{Each, none, more, own-each, Own, shown-alone, Likeness, alike-alone}
 use Rattle.demands.proofs.TableStays.{table-stays}
+use Rattle.demands.proofs.Sounds.{Both, sound-by}
 use Rattle.demands.proofs.Slabs.{slab, slab-place}
 use Rattle.demands.proofs.TermsStay.{one-terms}
 use Rattle.demands.proofs.Owned.{it-has}
@@ -228,7 +229,7 @@ own-steps-only i owner channel s t cs ds each-s each-t joined-s joined-t same ag
 -- ---- an example: a channel in record 2 holds a wrapper; in a second table stands another channel, and all other held octets differ
 
 -- a member of channel 7 that holds the three octets of wrapper 12 and stands off, as 11 is missing
-abbrev holding : Cid → Record
+abbrev pub holding : Cid → Record
 holding owner =
     record {
       used = true;
@@ -253,24 +254,24 @@ holding owner =
       places = record { used = true; total = total 12; reliable = reliable 12; len = 3 } ∷ replicate 3 freshPlace;
     }
 
-abbrev first : Cid
+abbrev pub first : Cid
 first = record { high = 1; low = 2 }
 
-abbrev second : Cid
+abbrev pub second : Cid
 second = record { high = 3; low = 4 }
 
-abbrev free : Record
+abbrev pub free : Record
 free = blank (replicate 4 freshPlace)
 
 -- record 5 is r, and record 2 has channel 7 of the first owner
-abbrev tableOf : Record → List Record
+abbrev pub tableOf : Record → List Record
 tableOf r = free ∷ free ∷ holding first ∷ free ∷ free ∷ r ∷ free ∷ free ∷ []
 
 -- the wrapper's octets, and the octet x all around
-unfoldable heldOf : ℕ → List ℕ
+unfoldable pub heldOf : ℕ → List ℕ
 heldOf x = splice (replicate heldSize x) (placeAt 2 0) (1 ∷ 2 ∷ 3 ∷ [])
 
-abbrev stateOf : Record → ℕ → State
+abbrev pub stateOf : Record → ℕ → State
 stateOf r x = record { table = tableOf r; held = heldOf x }
 
 fresh : (n j : ℕ) → getD (replicate n freshPlace) j noPlace ≡ freshPlace
@@ -278,51 +279,26 @@ fresh zero j = refl
 fresh (suc n) zero = refl
 fresh (suc n) (suc j) = fresh n j
 
-fresh-below : (n j : ℕ) → getD (replicate n freshPlace) j noPlace .reliable .0 < turn
-fresh-below n j = rw (fresh n j) (lit< tt)
+pub fresh-below : (n j : ℕ) → Both (getD (replicate n freshPlace) j noPlace .total) (getD (replicate n freshPlace) j noPlace .reliable)
+fresh-below n j = rw (fresh n j) (lit< tt, lit< tt)
 
-fresh-total : (n j : ℕ) → getD (replicate n freshPlace) j noPlace .total .0 < turn
-fresh-total n j = rw (fresh n j) (lit< tt)
+pub sound-free : Sound free
+sound-free = sound-by refl (lit< tt, lit< tt) (lit< tt) (lit< tt) (fresh-below 4)
 
-sound-free : Sound free
-sound-free =
-    record {
-      four = refl;
-      total = lit< tt;
-      reliable = lit< tt;
-      known = lit< tt;
-      acked = lit< tt;
-      held = fresh-below 4;
-      heldTotal = fresh-total 4;
-    }
-
-sound-holding : (owner : Cid) → Sound (holding owner)
-sound-holding owner =
-    record {
-      four = refl;
-      total = lit< tt;
-      reliable = lit< tt;
-      known = lit< tt;
-      acked = lit< tt;
-      held = held;
-      heldTotal = heldTotal;
-    }
+pub sound-holding : (owner : Cid) → Sound (holding owner)
+sound-holding owner = sound-by refl (lit< tt, lit< tt) (lit< tt) (lit< tt) held
   where
-    held : (j : ℕ) → getD (holding owner .places) j noPlace .reliable .0 < turn
-    held zero = lit< tt
+    held : (j : ℕ) → Both (getD (holding owner .places) j noPlace .total) (getD (holding owner .places) j noPlace .reliable)
+    held zero = (lit< tt, lit< tt)
     held (suc j) = fresh-below 3 j
 
-    heldTotal : (j : ℕ) → getD (holding owner .places) j noPlace .total .0 < turn
-    heldTotal zero = lit< tt
-    heldTotal (suc j) = fresh-total 3 j
-
-held-size : (x : ℕ) → length (heldOf x) ≡ heldSize
+pub held-size : (x : ℕ) → length (heldOf x) ≡ heldSize
 unfolding heldOf placeAt
 held-size x =
     let l : length (replicate heldSize x) ≡ heldSize = length-replicate heldSize x in
     length-splice (replicate heldSize x) (placeAt 2 0) (1 ∷ 2 ∷ 3 ∷ []) (omega arith) ∙ l
 
-joined-in : (r : Record) (x : ℕ) → Sound r → tableFormed (tableOf r) ≡ true → Joined 2 first 7 (stateOf r x)
+pub joined-in : (r : Record) (x : ℕ) → Sound r → tableFormed (tableOf r) ≡ true → Joined 2 first 7 (stateOf r x)
 unfolding named same
 joined-in r x sound well =
     record {
@@ -338,7 +314,7 @@ joined-in r x sound well =
       has = refl;
     }
 
-joined-one : Joined 2 first 7 (stateOf free 0)
+pub joined-one : Joined 2 first 7 (stateOf free 0)
 unfolding tableFormed
     differs named wellFormed termsRight legalNames legalParameters minExpiry distance heldAllRight heldRight heldApart apartFrom apart gapRight closed maxRetries
 joined-one = joined-in free 0 sound-free refl
