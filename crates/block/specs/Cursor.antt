@@ -7,7 +7,6 @@ use lib.ListN.{length}
 use lib.Dec.{ltb, leb, eqb}
 use Rattle.block.specs.Pdu.{pduAt}
 use Rattle.block.specs.Block.{most, nothing, Parsed, broken, messages, parse}
-use Rattle.block.specs.declared.Found.{Found}
 use Rattle.block.specs.declared.Cursor.{Cursor}
 use Rattle.block.specs.declared.Pdu.{Pdu}
 use Rattle.block.specs.declared.Pdu.the-variants.{Whole, Bad}

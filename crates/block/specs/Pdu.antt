@@ -1,7 +1,7 @@
 -- One PDU of a block (01, "Blocks and layouts"): its flags, its length, when it is malformed, and the message that it gives.
 -- s is the block, `at` the place where the PDU begins, and b its first octet.
 use Prim.Native.Nat.{ℕ, _+_, _-_, _/_, _%_, _<_, _≤_}
-use mathlib.Core.Bool.{Bool, true, false, cond, not, _&&_, _||_}
+use mathlib.Core.Bool.{Bool, cond, not, _&&_, _||_}
 use mathlib.Core.List.{List, _∷_}
 use lib.ListN.{length, getD}
 use lib.Dec.{ltb, eqb}

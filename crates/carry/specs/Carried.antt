@@ -21,7 +21,7 @@ use Rattle.carry.specs.declared.Deliveries.{Deliveries}
 unfoldable pub placeAt : ℕ → ℕ → ℕ
 placeAt i j = (i * 4 + j) * mostContents
 
--- the held octets, where c is what the wrapper contains: it is written into the place that it is held in
+-- the held octets after step 3: the contents c of a wrapper that is held stand in its place
 abbrev pub heldAfter : ℕ → Fate → List ℕ → List ℕ → List ℕ
 heldAfter i fate.Delivered c held = held
 heldAfter i (fate.Held j) c held = splice held (placeAt i j) c
@@ -55,7 +55,7 @@ fromPlace held i j p =
 abbrev pub fromPlaces : List ℕ → ℕ → List Place → List ℕ → List Delivered
 fromPlaces held i ps order = map (λ j. fromPlace held i j (getD ps j noPlace)) order
 
--- all that the step of record i by the wrapper w delivers
+-- all that the step of record i by the wrapper w delivers. Held contents are read as step 3 left them, since step 4 comes after it
 unfoldable pub deliveredBy : List ℕ → ℕ → Arrived → List ℕ → Plan → List Delivered
 deliveredBy held i w c p =
     atOnce (p .fate) w c ++ fromPlaces (heldAfter i (p .fate) c held) i (p .after .places) (take (p .count) (p .order))

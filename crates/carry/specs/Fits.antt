@@ -1,7 +1,7 @@
 -- What a plan has to be so that it can be carried out. Every plan of a well-formed record is (proofs/PlanFits.antt).
 use Prim.Native.Nat.{ℕ, _<_, _≤_}
 use mathlib.Core.Path.{_≡_}
-use lib.ListN.{length, getD}
+use lib.ListN.{getD}
 use Rattle.record.specs.WellFormed.{mostContents}
 use Rattle.wrapper.specs.Release.{noPlace}
 use Rattle.wrapper.specs.declared.Fate.the-variants as fate

@@ -17,14 +17,14 @@ use Rattle.gap.specs.declared.Elapsed.{Elapsed}
 abbrev pub gives : Record → Event → Elapsed
 gives r e = record { after = r; event = e }
 
--- a standoff with `left` milliseconds left: at 0 it sends the NAK, the count grows, and a wait of NAK_TIMEOUT begins
+-- a standoff with `left` milliseconds left: when none is left the NAK goes out and is counted, and the wait for its answer begins
 unfoldable pub inStandoff : Record → ℕ → ℕ → Elapsed
 inStandoff r left count =
     cond (eqb left 0)
     (gives (withGap r (gap.Waiting (nakTimeout (r .terms .expiry)) (count + 1))) (event.Nak (r .reliable) (nakFirst r) (nakLast r) (r .terms .outbound)))
     (gives (withGap r (gap.Standoff left count)) event.Nothing)
 
--- a wait with `left` milliseconds left: at 0 it leaves if the count is NAK_MAX_RETRIES, else it begins a standoff
+-- a wait with `left` milliseconds left: when none is left the channel is given up after the last NAK, and else stands off once more
 unfoldable pub inWait : Record → ℕ → ℕ → Elapsed
 inWait r left count =
     cond (eqb left 0)
@@ -39,7 +39,8 @@ phased r gap.Quiet ms = gives r event.Nothing
 phased r (gap.Standoff left count) ms = inStandoff r (left - ms) count
 phased r (gap.Waiting left count) ms = inWait r (left - ms) count
 
--- the channel has been idle for that much longer. If that is its expiry (in seconds) it is left, and its phase does not move. A free record stands
+-- the channel has been idle for that much longer. Once that reaches its expiry, which is in seconds, it is left and its phase does not move. A free record
+-- stands
 unfoldable pub elapsedOf : Record → ℕ → Elapsed
 elapsedOf r ms =
     cond (r .used)

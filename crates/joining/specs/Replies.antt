@@ -16,15 +16,15 @@ memberAt t r = record { leader = t .owner; channel = t .channel; mid = t .mid; r
 unfoldable pub askedAt : Cid → Join → Reliable → Membership
 askedAt owner j r = record { leader = owner; channel = j .channel; mid = j .mid; reliable = r }
 
--- a Join Refuse carries the Join's channel, MID and reliable number
+-- the answer to a Join that is turned down names it by its own numbers
 unfoldable pub refusal : Cid → Join → ℕ → Message
 refusal owner j reason = message.JoinRefuse (askedAt owner j (j .reliable)) reason
 
--- a Join Accept carries R and the reciprocal channel
+-- the answer to a Join that is taken says what was processed last, and where we answer
 unfoldable pub acceptance : Cid → Join → Reliable → ℕ → Message
 acceptance owner j r reciprocal = message.JoinAccept (askedAt owner j r) reciprocal
 
--- every Leaving carries R
+-- whoever leaves says up to where it has followed
 unfoldable pub departure : Terms → Reliable → ℕ → Message
 departure t r reason = message.Leaving (memberAt t r) reason
 

@@ -5,7 +5,6 @@ use mathlib.Core.List.{List, []}
 use lib.ListN.{length, set}
 use Rattle.octets.specs.Octets.{splice}
 use Rattle.message.specs.Layouts.{cidAt}
-use Rattle.message.specs.declared.Cid.{Cid}
 use Rattle.record.specs.Reasons.{leavingReason}
 use Rattle.record.specs.With.{freed}
 use Rattle.record.specs.declared.Record.{Record}

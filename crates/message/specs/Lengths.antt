@@ -1,6 +1,6 @@
 -- The vectors of the nine messages and the one table of their data lengths (01, "Blocks and layouts").
 use Prim.Native.Nat.{ℕ}
-use mathlib.Core.Bool.{Bool, cond, _&&_}
+use mathlib.Core.Bool.{cond, _&&_}
 use mathlib.Core.List.{List, [], _∷_}
 use lib.Dec.{eqb}
 

@@ -61,7 +61,7 @@ pub struct Join {
     pub address: Address,
 }
 
-// A wrapper's own fields; its contents are the rest of its body.
+// A wrapper's own fields; its contents are the rest of its data.
 pub struct Wrapper {
     pub channel: u16,
     pub total: Total,

@@ -1,6 +1,6 @@
 -- When a record is well formed (01, "One channel", its last paragraph). That used records differ in owner and channel is the table's part.
 use Prim.Native.Nat.{ℕ, _*_}
-use mathlib.Core.Bool.{Bool, true, false, cond, not, _&&_}
+use mathlib.Core.Bool.{Bool, true, cond, not, _&&_}
 use mathlib.Core.List.{List, [], _∷_}
 use lib.Dec.{ltb, leb, eqb}
 use lib.IntN.{pos}
@@ -28,7 +28,7 @@ heldRight r k p =
     && leb (p .len) mostContents)
     true
 
--- held numbers differ
+-- no two places hold the same number
 unfoldable pub apart : Place → Place → Bool
 apart p q = not (p .used && q .used && eqb (p .reliable .0) (q .reliable .0))
 

@@ -15,7 +15,7 @@ use Rattle.joining.specs.Replies.{refusal, acceptance, departure, missing}
 use Rattle.joining.specs.declared.Decision.{Decision}
 use Rattle.joining.specs.declared.Decision.the-variants as decision
 
--- a message that carries no contents
+-- the PDU of a message that carries no contents
 abbrev pub sentOf : Message → List ℕ
 sentOf m = pduOf m []
 

@@ -13,7 +13,6 @@ use Rattle.record.specs.declared.Record.{Record}
 use Rattle.wrapper.specs.declared.Arrived.{Arrived}
 use Rattle.wrapper.specs.declared.Search.{Search}
 use Rattle.wrapper.specs.declared.Search.the-variants as search
-use Rattle.wrapper.specs.declared.Fate.{Fate}
 use Rattle.wrapper.specs.declared.Fate.the-variants as fate
 use Rattle.wrapper.specs.declared.Placed.{Placed}
 
@@ -22,7 +21,7 @@ abbrev pub is : ℕ → ℤ → Bool
 is n (pos m) = eqb m n
 is n (negsuc m) = false
 
--- the next one: reliable with e = 1, or unreliable with e = 0
+-- the one that is due: a reliable one right after R, an unreliable one at R
 unfoldable pub nextOne : Record → Arrived → Bool
 nextOne r w = is (cond (w .reliably) 1 0) (distance (r .reliable .0) (w .reliable .0))
 

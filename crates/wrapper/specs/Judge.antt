@@ -28,9 +28,10 @@ numberOf Old = 8
 numberOf Inconsistent = 9
 numberOf Fresh = 0
 
--- step 2: the owner was heard, so the channel is not idle; and the wrapper may be the highest one known to be sent
+-- step 2, K: of K and a number, the one that lies farther from R
 unfoldable pub farther : Reliable → Reliable → Reliable → Reliable
 farther r k n = cond (ltZ (distance (r .0) (k .0)) (distance (r .0) (n .0))) n k
 
+-- step 2: the owner was heard, so the channel is not idle; and the wrapper may be the highest one known to be sent
 unfoldable pub heard : Record → Reliable → Record
 heard r n = withKnown (withIdle r 0) (farther (r .reliable) (r .known) n)

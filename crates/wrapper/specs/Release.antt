@@ -25,7 +25,7 @@ unfoldable pub nextHeld : Reliable → ℕ → List Place → Search
 nextHeld r i [] = search.Nowhere
 nextHeld r i (p ∷ ps) = cond (isNext r p) (search.At i) (nextHeld r (i + 1) ps)
 
--- past the places there is none
+-- past the places stands a free one
 abbrev pub noPlace : Place
 noPlace = record { used = false; total = record { 0 = 0 }; reliable = record { 0 = 0 }; len = 0 }
 

@@ -15,7 +15,6 @@ use Rattle.record.specs.declared.Gap.the-variants as gap
 use Rattle.record.specs.declared.Record.{Record}
 use Rattle.gap.specs.Standoff.{standoffOf}
 use Rattle.wrapper.specs.declared.Arrived.{Arrived}
-use Rattle.wrapper.specs.declared.Reply.{Reply}
 use Rattle.wrapper.specs.declared.Reply.the-variants as reply
 use Rattle.wrapper.specs.declared.Gapped.{Gapped}
 use Rattle.wrapper.specs.declared.Settled.{Settled}

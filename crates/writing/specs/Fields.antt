@@ -6,7 +6,6 @@ use Rattle.message.specs.Lengths.{null, ipv4}
 use Rattle.message.specs.declared.Cid.{Cid}
 use Rattle.message.specs.declared.Membership.{Membership}
 use Rattle.message.specs.declared.Parameters.{Parameters}
-use Rattle.message.specs.declared.Endpoint.{Endpoint}
 use Rattle.message.specs.declared.Address.{Address}
 use Rattle.message.specs.declared.Address.the-variants as address
 use Rattle.message.specs.declared.Join.{Join}

@@ -1,6 +1,6 @@
 -- Writing a message into a lent room (01, "Refusal numbers" and "Blocks and layouts"): m is the message, c the contents and r the room.
 use Prim.Native.Nat.{ℕ, _+_}
-use mathlib.Core.Bool.{Bool, true, false, cond, not}
+use mathlib.Core.Bool.{Bool, cond, not}
 use mathlib.Core.List.{List, _++_}
 use lib.ListN.{length, take}
 use lib.Dec.{ltb}

@@ -1,0 +1,157 @@
+// Runs recorded cases over the library: `cases FILE` judges each case of a file, `cases show FILE` writes the file with what each step gives
+// now. With no file it is standard input. A file is read as it comes and never held whole.
+mod lines;
+
+use forms::OCTETS;
+use forms::SAID;
+use forms::VALUES;
+use libc::STDERR_FILENO;
+use lines::take_end;
+use lines::take_line;
+use lines::take_long_line;
+use rooms::lent::HELD;
+use rows::ROWS;
+use stream::report::LINE;
+use stream::report::OUT;
+use stream::report::State;
+use stream::report::first_state;
+use stream::report::flush;
+use stream::report::pass_on;
+use stream::report::tally;
+use stream::source::BUFFER;
+use stream::source::Source;
+use stream::source::Turn;
+use stream::source::first_source;
+use stream::source::turn_on;
+use text::is_same;
+use text::part;
+
+// What one turn of the source found.
+fn take_turn(
+    turn: Turn,
+    line: &[u8],
+    rows: &mut [u64; ROWS],
+    held: &mut [u8; HELD],
+    values: &mut [u64; VALUES],
+    octets: &mut [u8; OCTETS],
+    said: &mut [u8; SAID],
+    name: &mut [u8; LINE],
+    out: &mut [u8; OUT],
+    state: State,
+) -> State {
+    match turn {
+        Turn::Line => take_line(line, rows, held, values, octets, said, name, out, state),
+        Turn::Piece => pass_on(line, out, state),
+        Turn::LongEnd => take_long_line(line, said, name, out, state),
+        _ => state,
+    }
+}
+
+// Whether the input goes on.
+fn goes_on(turn: Turn) -> bool {
+    match turn {
+        Turn::End | Turn::Wrong => false,
+        _ => true,
+    }
+}
+
+// Reads to the end of the input and reports every case. All that is kept lies in these arrays, which the functions below are lent, since a
+// struct that held them would be copied at each call.
+fn run_all(fd: i32, show: bool) {
+    let mut buffer = [0u8; BUFFER];
+    let mut rows = [0u64; ROWS];
+    let mut held = [0u8; HELD];
+    let mut values = [0u64; VALUES];
+    let mut octets = [0u8; OCTETS];
+    let mut said = [0u8; SAID];
+    let mut name = [0u8; LINE];
+    let mut out = [0u8; OUT];
+    let mut state = first_state(show);
+    let mut source = first_source();
+    let mut turns = u64::MAX;
+    while 0 < turns {
+        source = turn_on(fd, &mut buffer, source);
+        let turn = source.turn;
+        if !goes_on(turn) {
+            break;
+        }
+        let line = found_line(&buffer, source);
+        state = take_turn(
+            turn,
+            line,
+            &mut rows,
+            &mut held,
+            &mut values,
+            &mut octets,
+            &mut said,
+            &mut name,
+            &mut out,
+            state,
+        );
+        turns -= 1;
+    }
+    let turn = source.turn;
+    finish(turn, &said, &name, &mut out, state);
+}
+
+fn found_line(buffer: &[u8; BUFFER], source: Source) -> &[u8] {
+    part(buffer, source.from, source.to)
+}
+
+// The report ends with the tally, unless the input could not be read to its end.
+fn finish(turn: Turn, said: &[u8; SAID], name: &[u8; LINE], out: &mut [u8; OUT], state: State) {
+    if let Turn::Wrong = turn {
+        flush(out, state.out);
+        os::fail(b"cases: the input cannot be read");
+        return;
+    }
+    let closed = take_end(said, name, out, state);
+    let last = tally(out, closed);
+    flush(out, last.out);
+}
+
+// Runs the file that argument i names.
+fn run_file(i: usize, show: bool) {
+    let mut path = io::buffer();
+    let length = os::arg(i, &mut path);
+    if os::errno() != 0 {
+        os::fail(b"cases: the file's name");
+        return;
+    }
+    let fd = os::open_read(&path[..length]);
+    if fd < 0 {
+        io::write_all(STDERR_FILENO, b"cases: ");
+        os::fail(&path[..length]);
+        return;
+    }
+    run_all(fd, show);
+    libc::close(fd);
+}
+
+// Whether the first argument is `show`.
+fn is_show() -> bool {
+    let mut word = io::buffer();
+    let length = os::arg(1, &mut word);
+    is_same(&word[..length], b"show")
+}
+
+fn run_argument(i: usize, show: bool) {
+    let count = os::arg_count();
+    if count <= i {
+        run_all(0, show);
+        return;
+    }
+    if count != i + 1 {
+        io::write_all(STDERR_FILENO, b"usage: cases [show] [FILE]\n");
+        return;
+    }
+    run_file(i, show);
+}
+
+fn main() {
+    if is_show() {
+        run_argument(2, true);
+    } else {
+        run_argument(1, false);
+    }
+}
