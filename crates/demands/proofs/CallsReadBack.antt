@@ -177,7 +177,7 @@ leave-replies ts reply owner channel reason wide =
     by search.Nowhere e = none-read
     by (search.At i) e = on i (found-at (cidAt owner 0) channel ts i e .0) (leavingReason reason) refl
 
--- ---- an example: the table in which record 2 has channel 7 of the first owner, and the second owner's Join to channel 8
+-- ---- an example: the table in which record 2 has channel 7 of the first owner, and the second owner's Join to channel 7
 
 wide-table : Wide (example.tableOf example.free)
 wide-table =

@@ -1,4 +1,4 @@
--- Checks in an order: the number that is given is that of the first one that holds (01, "Refusal numbers").
+-- Checks in an order: the number that is given is that of the first one that holds (01, "Refusal numbers"), exactly. Assumes nothing.
 use Prim.Native.Nat.{ℕ}
 use mathlib.Core.Path.{_≡_, refl, sym}
 use mathlib.Core.Bool.{Bool, true, false, cond}

@@ -1,5 +1,5 @@
 -- A call that moves one record leaves all others: the other records of the table, and every octet of their places (`message-frame`, `leave-frame`); an elapsed call
--- gives each record what its own time makes of it (`elapsed-frame`). It assumes a well-formed table of the machine's numbers (`Right`).
+-- that is accepted gives each record what its own time makes of it (`elapsed-frame`). The first assumes a well-formed table of the machine's numbers (`Right`), the others nothing.
 use Prim.Native.Nat.{ℕ, zero, suc}
 use mathlib.Core.Bool.{Bool, true, false, cond, not}
 use mathlib.Core.List.{List, [], _∷_}

@@ -1,5 +1,5 @@
--- A gap ends (01, "One channel"): counted from the call in which a channel's gap begins, once accepted elapsed times sum past
--- NAK_MAX_RETRIES times (maxwait + NAK_TIMEOUT + 2,000) the channel has been without a gap or is left, whatever other calls lie between (`gap-ends`).
+-- A gap ends (01, "One channel"): add up the accepted elapsed times from the call on in which a channel's gap begins. Before they exceed NAK_MAX_RETRIES rounds of a
+-- whole standoff, a whole wait and two seconds for the calls that pass their ends, the gap has closed or the channel is left, whatever other calls lie between (`gap-ends`).
 -- Assumes that the channel is joined in a right table and that the data of messages are octets; the example at the end meets all that is assumed.
 use Prim.Native.Nat.{ℕ, zero, suc, _+_, _-_, _*_, _<_, _≤_}
 use mathlib.Core.Bool.{Bool, true, false, false≢true, not, _||_, and-eq-true-iff}

@@ -1,12 +1,12 @@
 -- Over a whole run of a channel, up to and including the call that leaves it, deliveries come in turn (`run-in-turn`): the reliable wrappers delivered
 -- carry exactly the reliable numbers that follow R, one after the other (`reliable-in-order`), and so from the Join on those that follow the Join's
 -- (`joined-in-turn`, `joined-in-order`). All assume that the table is right at the start and that the data of messages are octets, and the
--- first two that the channel is joined (`Right`, `Joined`, `Lawful`); the example at the end meets that and delivers two wrappers.
+-- first two that the channel is joined (`Right`, `Joined`, `Lawful`); the examples at the end meet that: one delivers two wrappers, one begins with a Join.
 --
 -- What follows: among the reliable ones none is delivered twice before the counter has made a full turn of 2^32 reliable deliveries (`delivered-once`),
 -- none is skipped, and none comes out of turn; an unreliable one is delivered only between the reliable ones that its number says, and with a total ahead of the last.
--- What does not follow: a total that moved on by two steps of almost half a turn each may be met again, since a total is only compared with the
--- one before it.
+-- What does not follow: a total may be met again after two steps of almost half a turn and a short third one, since a total is only compared with
+-- the one before it.
 use Prim.Native.Nat.{ℕ, zero, suc, _+_, _%_, _<_, _≤_}
 use mathlib.Core.Bool.{Bool, true, false, cond, not}
 use mathlib.Core.List.{List, [], _∷_, _++_, map}
@@ -64,7 +64,7 @@ use Rattle.member.specs.declared.Given.the-variants as given
 use Rattle.demands.specs.Runs.{Came, run, ownOf, shown}
 use Rattle.demands.specs.Calls as calls
 use Rattle.demands.specs.Calls.{Call, State, tableStep, Sound, Lawful, Right}
-use Rattle.demands.specs.Channel.{Channel, Told, own, one, live, channelAt, viewAt, planned, elapsedOn}
+use Rattle.demands.specs.Channel.{Channel, Told, own, one, live, channelAt, viewAt, planned, elapsedOn, names, isCid}
 use Rattle.demands.specs.Order.{deliveredIn, deliveredAll, InTurn, reliableNumbers, following}
 use Rattle.demands.proofs.Running.{Each, none, more, own-each, along}
 use Rattle.demands.proofs.OneStep.{refuses, joins, brought, Does, answers, wraps, passes, leaves, does}
@@ -392,15 +392,26 @@ unfolding messageOutcome messageSizes askedOf readMessage readable readableJoin 
     found lowestFree named same cidAt number decided decideNew legal legalBlock legalNames legalParameters minExpiry
 makes-with lent l = rw (l, example.joined-one .right .formed)
 
-makes-first : Makes (example.stateOf example.free 0) joinCall 0 example.second 8 (joinOf sample.joinData)
+makes-first : Makes (example.stateOf example.free 0) joinCall 0 example.second 7 (joinOf sample.joinData)
 unfolding cidAt joinOf number
 makes-first =
     makes heldSize deliverSize replySize (sample.cid 3 4) (replicate 16 0) 4 sample.joinData 9 0 (parametersAt sample.joinData 31)
     (makes-with (calls.lentAs heldSize (example.heldOf 0)) (lent-length heldSize (example.heldOf 0)))
 
+-- and its first wrapper comes, with number 11
+abbrev first-comes : List Call
+first-comes = sample.wrapperCall (sample.cid 3 4) 11 (4 ∷ 5 ∷ 6 ∷ []) ∷ []
+
+lawful-first : Each Lawful first-comes
+lawful-first = more (sample.lawful (sample.wrapperData 11 (4 ∷ 5 ∷ 6 ∷ [])) refl) none
+
+own-first : ownOf (own example.second 7) first-comes ≡ first-comes
+unfolding ownOf own isCid cidAt number same names readable lengthOf look wrapperOf
+own-first = refl
+
 joined-turn : InTurn (total 10) (reliable 10)
-    (deliveredAll (shown (own example.second 8) (viewAt 0) live (run tableStep (tableStep (example.stateOf example.free 0) joinCall .state) comes)))
+    (deliveredAll (shown (own example.second 7) (viewAt 0) live (run tableStep (tableStep (example.stateOf example.free 0) joinCall .state) first-comes)))
 unfolding joinOf number
 joined-turn =
-    joined-in-turn 0 example.second 8 (example.stateOf example.free 0) joinCall comes (joinOf sample.joinData) (example.joined-one .right)
-    (sample.lawful sample.joinData refl) lawful-comes makes-first
+    joined-in-turn 0 example.second 7 (example.stateOf example.free 0) joinCall first-comes (joinOf sample.joinData) (example.joined-one .right)
+    (sample.lawful sample.joinData refl) lawful-first makes-first

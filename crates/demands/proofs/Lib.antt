@@ -5,6 +5,7 @@ pub mod RoundTrip
 pub mod Examples
 pub mod Checks
 pub mod Refusals
+pub mod BlockRefusals
 pub mod OneOutcome
 pub mod Running
 pub mod Kept

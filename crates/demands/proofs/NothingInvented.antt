@@ -12,7 +12,7 @@ use mathlib.Core.Path.{_≡_, refl, sym, ap, subst, _∙_}
 use native.Mathlib.Omega.{arith}
 use lib.Dec.{eqb}
 use lib.ListN.{length, getD, take}
-use Rattle.counter.specs.Distance.{turn, distance}
+use Rattle.counter.specs.Distance.{turn, ahead, distance}
 use Rattle.counter.specs.declared.Reliable.{Reliable}
 use Rattle.octets.specs.Octets.{number, part}
 use Rattle.octets.proofs.Writes.{part-splice}
@@ -299,6 +299,13 @@ right-of i owner channel s c j =
     let has = it-has i owner channel s (j .right) (j .has) in
     let sound = j .right .sound i (has .below) in
     step-right (channelAt i s) (does (channelAt i s) owner c) (sound .reliable) (sound .known) (has .formed .each i)
+
+-- so no number that is asked for is held
+pub asked-not-held : {r k : ℕ} {ps : List Place} {first last : ℕ} → Asked r k ps first last → (x : ℕ) → ahead r x ≤ ahead r last
+    → (j : ℕ) → getD ps j noPlace .used ≡ true → getD ps j noPlace .reliable .0 ≢ x
+asked-not-held {r} {k} {ps} {first} {last} a x within j used e =
+    let beyond = a .missing j used in
+    absurd (omega (arith, subst (λ y. ahead r last < ahead r y) e beyond, within))
 
 pub only-missing : (i : ℕ) (owner : Cid) (channel : ℕ) (s : State) (cs : List Call) → Each Lawful cs → Joined i owner channel s
     → Each NakRight (shown (own owner channel) (viewAt i) live (run tableStep s cs))

@@ -1,7 +1,7 @@
--- Demand 3 of the order. A joined channel, named by its owner and its channel number, is moved only by steps of its own: what a run of arbitrary
--- calls shows of it is what the channel does by itself with its own calls (`own-run`); and two runs that agree in its own calls show the same of it,
--- however all other calls differ (`own-steps-only`). Both hold up to the call that leaves the channel, that one included. Assumes of a state that it is
--- right (`Right`) and of messages that their data are octets (`Lawful`); the example at the end meets all that is assumed.
+-- Demand 3 of the order. A call that is not a channel's own leaves its record and its held octets (`others-leave`). So what a run of arbitrary calls shows of the
+-- channel is what the channel does by itself with its own calls (`own-run`), and two runs that agree in its own calls show the same of it, however all other
+-- calls differ (`own-steps-only`). Both go up to the call that leaves the channel, and include it. They assume that the channel is joined in a well-formed
+-- table of the machine's numbers (`Joined`) and that the data of messages are octets (`Lawful`); the example at the end meets that.
 use Prim.{tt}
 use Prim.Native.Nat.{ℕ, zero, suc, _<_, _≤_}
 use mathlib.Core.Bool.{Bool, true, false, false≢true}
@@ -92,6 +92,11 @@ module _ (i : ℕ) (owner : Cid) (channel : ℕ) where
         lives = λ s joined. named-is owner channel (recordAt (s .table) i) (joined .has) .0;
         stays = stays-joined;
       }
+
+-- any other call leaves the channel: its record, and every octet of its places
+pub others-leave : (i : ℕ) (owner : Cid) (channel : ℕ) (s : State) (c : Call) → Joined i owner channel s → Lawful c → own owner channel c ≡ false
+    → channelAt i (tableStep s c .state) ≡ channelAt i s
+others-leave i owner channel s c joined lawful other = own-law i owner channel .others s c joined lawful other
 
 -- the one-run equation
 pub own-run : (i : ℕ) (owner : Cid) (channel : ℕ) (s : State) (cs : List Call) → Each Lawful cs → Joined i owner channel s

@@ -1,8 +1,10 @@
--- Demand 1 of the order, its refusals: each call over the table gives the number of the first condition, in that call's order, that holds
--- (`message-number`, `elapsed-number`, `leave-number`), and a refusal leaves the table and every lent octet as before (`message-leaves`,
--- `elapsed-leaves`, `leave-leaves`). That this is "exactly if", both ways, is `given-is-first` and `first-is-given` of Checks. Each condition
--- stands by itself under the words of 01's table of numbers. Assumes nothing.
+-- Demand 1 of the order, its refusals. Each call over the table gives the number of the first condition, in that call's order, that holds (`message-number`,
+-- `elapsed-number`, `leave-number`); so a number is given exactly if its condition holds and no earlier one, and a call is accepted exactly if none holds
+-- (`message-refused`, `message-accepted` and the like for the other two). A refusal leaves the table and every lent octet, and its answer is the number alone
+-- (`message-leaves`, `elapsed-leaves`, `leave-leaves`). Each condition stands by itself under the words of 01's table. Assumes nothing.
 use Prim.Native.Nat.{ℕ, _+_, _*_}
+use mathlib.Core.Logic.{_↔_}
+use native.Mathlib.Omega.{arith}
 use mathlib.Core.Path.{_≡_, refl, sym, ap, _∙_}
 use mathlib.Core.Bool.{Bool, true, false, cond, not, _&&_, _||_}
 use mathlib.Core.List.{List, [], _∷_, map}
@@ -40,7 +42,7 @@ use Rattle.member.specs.Sizes.{cellSize, messageSizes, elapsedSizes, leaveSizes
 use Rattle.member.specs.Messages.{Outcome, isFound, refusedMessage, joinOutcome, planOutcome, steppedOutcome, wrapperOutcome, askedOutcome, messageOutcome, numberOf, messaged, deliverAfter, replyAfter}
 use Rattle.member.specs.Elapsing.{longest, Passing, refusedElapsed, passing, elapsedOutcome, passed, cellsFrom, cellsAfter}
 use Rattle.member.specs.Leaving.{Departing, refusedLeave, departing, leaveFor, leaveOutcome, leftReply}
-use Rattle.demands.proofs.Checks.{Check, firstOf}
+use Rattle.demands.proofs.Checks.{Check, firstOf, First, None, Numbered, empty, numbered, first-is-given, given-is-first, none-is-given, given-is-none}
 
 -- ---- the conditions
 
@@ -89,7 +91,7 @@ isInconsistent judging.Old = false
 isInconsistent judging.Inconsistent = true
 isInconsistent judging.Fresh = false
 
--- a message call checks 1, 2 and 4 to 9
+-- the order of a message call
 abbrev pub messageChecks : List Record → List ℕ → ℕ → ℕ → List ℕ → List ℕ → ℕ → List ℕ → List Check
 messageChecks ts held deliver reply sender ours v d =
     check 1 (not (messageSizes (length ts) (length held) deliver reply (length sender) (length ours)))
@@ -102,12 +104,12 @@ messageChecks ts held deliver reply sender ours v d =
     ∷ check 9 (isWrapper v && isInconsistent (judgement ts sender v d))
     ∷ []
 
--- an elapsed call checks 1, 2, 3
+-- that of an elapsed call
 abbrev pub elapsedChecks : List Record → ℕ → ℕ → List Check
 elapsedChecks ts cells ms =
     check 1 (not (elapsedSizes (length ts) cells)) ∷ check 2 (not (tableFormed ts)) ∷ check 3 (ltb longest ms) ∷ []
 
--- a leave call checks 1, 2, 6, 10
+-- and of a leave call
 abbrev pub leaveChecks : List Record → ℕ → List ℕ → ℕ → ℕ → List Check
 leaveChecks ts reply owner channel reason =
     check 1 (not (leaveSizes (length ts) reply (length owner)))
@@ -154,13 +156,15 @@ silent [] i room = refl
 silent (r ∷ ts) i room =
     ap (λ after. cellsFrom (i + 1) (map (λ r. gives r event.Nothing) ts) after) (sym (splice-nothing room (i * cellSize))) ∙ silent ts (i + 1) room
 
--- a refused elapsed call leaves the table and every octet of the cells
+-- a refused elapsed call leaves the table and every octet of the cells, and answers its number alone: no record has sent anything
 pub elapsed-leaves : (ts : List Record) (cells ms : ℕ) (room : List ℕ) → (firstOf (elapsedChecks ts cells ms) ≡ 0 → ⊥)
-    → (passed (elapsedOutcome ts cells ms) .table ≡ ts) × (cellsAfter (elapsedOutcome ts cells ms) room ≡ room)
+    → (passed (elapsedOutcome ts cells ms) .table ≡ ts)
+    × (cellsAfter (elapsedOutcome ts cells ms) room ≡ room)
+    × (elapsedOutcome ts cells ms ≡ refusedElapsed ts (firstOf (elapsedChecks ts cells ms)))
 elapsed-leaves ts cells ms room z = by (elapsed-told ts cells ms) z
   where
-    by : {k : ℕ} {p : Passing} → Elapsed ts k p → (k ≡ 0 → ⊥) → (passed p .table ≡ ts) × (cellsAfter p room ≡ room)
-    by (refused n) z = (standing ts, silent ts 0 room)
+    by : {k : ℕ} {p : Passing} → Elapsed ts k p → (k ≡ 0 → ⊥) → (passed p .table ≡ ts) × (cellsAfter p room ≡ room) × (p ≡ refusedElapsed ts k)
+    by (refused n) z = (standing ts, silent ts 0 room, refl)
     by (accepted p e) z = absurd (z refl)
 
 pub data Left (ts : List Record) : ℕ → Departing → Type 0 where
@@ -191,14 +195,16 @@ leave-number ts reply owner channel reason = by (leave-told ts reply owner chann
     by (refused n) = refl
     by (accepted p e) = e
 
--- a refused leave call leaves the table and every octet of the reply room
+-- a refused leave call leaves the table and every octet of the reply room, and answers its number alone
 pub leave-leaves : (ts : List Record) (reply : ℕ) (owner : List ℕ) (channel reason : ℕ) (room : List ℕ)
     → (firstOf (leaveChecks ts reply owner channel reason) ≡ 0 → ⊥)
-    → (leaveOutcome ts reply owner channel reason .table ≡ ts) × (leftReply (leaveOutcome ts reply owner channel reason) room ≡ room)
+    → (leaveOutcome ts reply owner channel reason .table ≡ ts)
+    × (leftReply (leaveOutcome ts reply owner channel reason) room ≡ room)
+    × (leaveOutcome ts reply owner channel reason ≡ refusedLeave ts (firstOf (leaveChecks ts reply owner channel reason)))
 leave-leaves ts reply owner channel reason room z = by (leave-told ts reply owner channel reason) z
   where
-    by : {k : ℕ} {p : Departing} → Left ts k p → (k ≡ 0 → ⊥) → (p .table ≡ ts) × (leftReply p room ≡ room)
-    by (refused n) z = (refl, sym (splice-nothing room 0))
+    by : {k : ℕ} {p : Departing} → Left ts k p → (k ≡ 0 → ⊥) → (p .table ≡ ts) × (leftReply p room ≡ room) × (p ≡ refusedLeave ts k)
+    by (refused n) z = (refl, sym (splice-nothing room 0), refl)
     by (accepted p e) z = absurd (z refl)
 
 -- ---- a message call
@@ -362,3 +368,67 @@ message-leaves ts held deliver reply sender ours v d n z = by (message-told ts h
     by : {k : ℕ} {out : Outcome} → Told ts held k out → (k ≡ 0 → ⊥) → Stands ts held deliver reply k out
     by (refused k) z = record { table = refl; held = refl; deliver = refl; reply = sym (splice-nothing reply 0); answer = refl }
     by (accepted p e) z = absurd (z refl)
+
+-- ---- exactly if, both ways: number n is given exactly if its condition holds and no earlier one, and a call is accepted exactly if none holds
+
+module _ (ts : List Record) (held : List ℕ) (deliver reply : ℕ) (sender ours : List ℕ) (v : ℕ) (d : List ℕ) (n : ℕ) where
+  abbrev checks : List Check
+  checks = messageChecks ts held deliver reply sender ours v d
+
+  pub message-refused : (k : ℕ) → (k ≡ 0 → ⊥)
+      → (numberOf (messageOutcome ts held deliver reply sender ours v d n .given) ≡ k) ↔ First k checks
+  message-refused k z = (
+    λ e. given-is-first k checks z (sym (message-number ts held deliver reply sender ours v d n) ∙ e),
+    λ f. message-number ts held deliver reply sender ours v d n ∙ first-is-given k checks f,
+  )
+
+  pub message-accepted : (numberOf (messageOutcome ts held deliver reply sender ours v d n .given) ≡ 0) ↔ None checks
+  message-accepted = (
+    λ e. given-is-none checks all (sym (message-number ts held deliver reply sender ours v d n) ∙ e),
+    λ f. message-number ts held deliver reply sender ours v d n ∙ none-is-given checks f,
+  )
+    where
+      all : Numbered (messageChecks ts held deliver reply sender ours v d)
+      all =
+          numbered 1 _ _ (λ e. omega arith)
+          (numbered 2 _ _ (λ e. omega arith)
+          (numbered 4 _ _ (λ e. omega arith)
+          (numbered 5 _ _ (λ e. omega arith)
+          (numbered 6 _ _ (λ e. omega arith)
+          (numbered 7 _ _ (λ e. omega arith)
+          (numbered 8 _ _ (λ e. omega arith) (numbered 9 _ _ (λ e. omega arith) empty)))))))
+
+module _ (ts : List Record) (cells ms : ℕ) where
+  pub elapsed-refused : (k : ℕ) → (k ≡ 0 → ⊥) → (elapsedOutcome ts cells ms .number ≡ k) ↔ First k (elapsedChecks ts cells ms)
+  elapsed-refused k z = (
+    λ e. given-is-first k (elapsedChecks ts cells ms) z (sym (elapsed-number ts cells ms) ∙ e),
+    λ f. elapsed-number ts cells ms ∙ first-is-given k (elapsedChecks ts cells ms) f,
+  )
+
+  pub elapsed-accepted : (elapsedOutcome ts cells ms .number ≡ 0) ↔ None (elapsedChecks ts cells ms)
+  elapsed-accepted = (
+    λ e. given-is-none (elapsedChecks ts cells ms) all (sym (elapsed-number ts cells ms) ∙ e),
+    λ f. elapsed-number ts cells ms ∙ none-is-given (elapsedChecks ts cells ms) f,
+  )
+    where
+      all : Numbered (elapsedChecks ts cells ms)
+      all = numbered 1 _ _ (λ e. omega arith) (numbered 2 _ _ (λ e. omega arith) (numbered 3 _ _ (λ e. omega arith) empty))
+
+module _ (ts : List Record) (reply : ℕ) (owner : List ℕ) (channel reason : ℕ) where
+  pub leave-refused : (k : ℕ) → (k ≡ 0 → ⊥)
+      → (leaveOutcome ts reply owner channel reason .number ≡ k) ↔ First k (leaveChecks ts reply owner channel reason)
+  leave-refused k z = (
+    λ e. given-is-first k (leaveChecks ts reply owner channel reason) z (sym (leave-number ts reply owner channel reason) ∙ e),
+    λ f. leave-number ts reply owner channel reason ∙ first-is-given k (leaveChecks ts reply owner channel reason) f,
+  )
+
+  pub leave-accepted : (leaveOutcome ts reply owner channel reason .number ≡ 0) ↔ None (leaveChecks ts reply owner channel reason)
+  leave-accepted = (
+    λ e. given-is-none (leaveChecks ts reply owner channel reason) all (sym (leave-number ts reply owner channel reason) ∙ e),
+    λ f. leave-number ts reply owner channel reason ∙ none-is-given (leaveChecks ts reply owner channel reason) f,
+  )
+    where
+      all : Numbered (leaveChecks ts reply owner channel reason)
+      all =
+          numbered 1 _ _ (λ e. omega arith)
+          (numbered 2 _ _ (λ e. omega arith) (numbered 6 _ _ (λ e. omega arith) (numbered 10 _ _ (λ e. omega arith) empty)))

@@ -377,7 +377,7 @@ join-fits sender d s o =
 pub existing-fits : (r : Record) → Sound r → FitTerms (r .terms) → FitExisting (existingOf r)
 existing-fits r s f = (s .reliable, f .reciprocal)
 
--- ---- an example: channel 7 of the first owner asks for 11, and the second owner's Join to channel 8 is answered
+-- ---- an example: channel 7 of the first owner asks for 11, and the second owner's Join to channel 7 is answered
 
 pub terms-fit : FitTerms (example.holding example.first .terms)
 terms-fit = record { owner = record { high = lit< tt; low = lit< tt }; channel = lit< tt; mid = lit< tt; reciprocal = lit< tt }

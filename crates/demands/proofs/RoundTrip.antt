@@ -1,6 +1,7 @@
 -- Demand 2 of the order, for messages as octets: what is written is read back as the same message (`round-trip`), and octets that are read as
 -- a message with a written form are those to which that message is written (`written-again`). Both are over the definitions by which the
--- calls' contracts say what they do: `wrote` and `roomAfter` of writing, `readBlock` and `readMessage` of reading. Assumes nothing.
+-- calls' contracts say what they do: `wrote` and `roomAfter` of writing, `readBlock` and `readMessage` of reading. The first assumes of the message that its numbers have the width of their fields, that it
+-- has a written form, and that contents and room are of sizes that writing takes; the second that the data are octets and can be read.
 use mathlib.Core.Path.{_≡_, refl}
 use mathlib.Core.Bool.{true}
 use mathlib.Core.List.{List, [], _∷_, _++_}

@@ -1,4 +1,4 @@
--- Messages for the examples at the end of the theorems: a reliable wrapper on channel 7, and a Join to channel 8. That their data are octets is
+-- Messages for the examples at the end of the theorems: a reliable wrapper on channel 7, and a Join to channel 7. That their data are octets is
 -- computed (`lawful`).
 use Prim.Native.Nat.{ℕ, zero, suc}
 use mathlib.Core.Bool.{Bool, true, _&&_, and-eq-true-iff}
@@ -24,9 +24,9 @@ wrapperData k c = 0 ∷ 7 ∷ 0 ∷ 0 ∷ 0 ∷ k ∷ 0 ∷ 0 ∷ 0 ∷ k ∷ 0 
 abbrev pub wrapperCall : List ℕ → ℕ → List ℕ → Call
 wrapperCall sender k c = calls.message heldSize deliverSize replySize sender (replicate 16 0) reliableWrapper (wrapperData k c) 0
 
--- a Join of member 3 to channel 8 for the component with CID 0, with total and reliable number 10, a null address, expiry 5, modulus 1 and maxwait 100
+-- a Join of member 3 to channel 7 for the component with CID 0, with total and reliable number 10, a null address, expiry 5, modulus 1 and maxwait 100
 abbrev pub joinData : List ℕ
-joinData = replicate 16 0 ++ 0 ∷ 3 ∷ 0 ∷ 8 ∷ 0 ∷ 9 ∷ 0 ∷ 0 ∷ 0 ∷ 10 ∷ 0 ∷ 0 ∷ 0 ∷ 10 ∷ 0 ∷ 5 ∷ 0 ∷ 0 ∷ 0 ∷ 0 ∷ 1 ∷ 0 ∷ 100 ∷ 0 ∷ []
+joinData = replicate 16 0 ++ 0 ∷ 3 ∷ 0 ∷ 7 ∷ 0 ∷ 9 ∷ 0 ∷ 0 ∷ 0 ∷ 10 ∷ 0 ∷ 0 ∷ 0 ∷ 10 ∷ 0 ∷ 5 ∷ 0 ∷ 0 ∷ 0 ∷ 0 ∷ 1 ∷ 0 ∷ 100 ∷ 0 ∷ []
 
 -- lists whose elements are all octets, by a test that computes
 abbrev pub small : List ℕ → Bool

@@ -44,7 +44,8 @@ use Rattle.demands.specs.Calls.{Call, State}
 abbrev pub isWrapper : ℕ → Bool
 isWrapper v = eqb v reliableWrapper || eqb v unreliableWrapper
 
--- a message that can be read and names this channel: a wrapper on it, or a Join for it
+-- a message that can be read and names this channel: a wrapper on it, or a Join for it. Whatever else has the channel in its data is refused, by 4 or
+-- 5, and moves nothing; so it counts among the other calls
 unfoldable pub names : ℕ → ℕ → List ℕ → Bool
 names channel v d =
     readable v d
