@@ -385,7 +385,7 @@ abbrev joinCall : Call
 joinCall = calls.message heldSize deliverSize replySize (sample.cid 3 4) (replicate 16 0) 4 sample.joinData 9
 
 -- it is made in the lowest free record
-makes-with : (lent : List ℕ) → length lent ≡ heldSize
+pub makes-with : (lent : List ℕ) → length lent ≡ heldSize
     → messageOutcome (example.tableOf example.free) lent deliverSize replySize (sample.cid 3 4) (replicate 16 0) 4 sample.joinData 9 .given
     ≡ given.Joined (search.At 0) (decision.Make (parametersAt sample.joinData 31))
 unfolding messageOutcome messageSizes askedOf readMessage readable readableJoin lengthOf look messageOf joinOf addressOf parametersAt joinAsks joinOutcome

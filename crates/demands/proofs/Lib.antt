@@ -30,3 +30,4 @@ pub mod NothingInvented
 pub mod InTurn
 pub mod RepliesReadBack
 pub mod CallsReadBack
+pub mod Instances
