@@ -45,12 +45,12 @@ use Rattle.member.specs.declared.Given.{Given}
 use Rattle.member.specs.declared.Given.the-variants as given
 use Rattle.demands.specs.Calls.{Sound}
 use Rattle.demands.specs.Channel.{entryAt}
-use Rattle.demands.proofs.Asks as asks
-use Rattle.demands.proofs.Asks.{Asks}
-use Rattle.demands.proofs.Sounds.{either, Both}
-use Rattle.demands.proofs.Brought.{wrapper-says}
+use Rattle.demands.proofs.Lemmas.Asks as asks
+use Rattle.demands.proofs.Lemmas.Asks.{Asks}
+use Rattle.demands.proofs.Lemmas.Sounds.{either, Both}
+use Rattle.demands.proofs.Lemmas.Brought.{wrapper-says}
 use Rattle.demands.proofs.OwnStepsOnly as example
-use Rattle.demands.proofs.Sample as sample
+use Rattle.demands.proofs.Lemmas.Sample as sample
 use Rattle.demands.proofs.RepliesReadBack.{ReadFrom, none-read, replyMeans, eventMeans, joinMeans, FitTerms, FitAsked, FitExisting, step-reply-read, elapsed-read, leave-read, decided-read, join-fits, existing-fits, terms-fit}
 
 -- the records of a table have numbers of the widths of their fields

@@ -28,8 +28,8 @@ use Rattle.member.specs.Messages.{Outcome, refusedMessage, joinDone, planOutcom
 use Rattle.member.specs.declared.Given.{Given}
 use Rattle.member.specs.declared.Given.the-variants as given
 use Rattle.demands.specs.Calls.{State, Right}
-use Rattle.demands.proofs.Slabs.{slab, slab-other}
-use Rattle.demands.proofs.Outcomes.{Carries, message-cases}
+use Rattle.demands.proofs.Lemmas.Slabs.{slab, slab-other}
+use Rattle.demands.proofs.Lemmas.Outcomes.{Carries, message-cases}
 
 -- the record that a message call moves, if it moves one: the new one of a Join, or that of a wrapper
 abbrev pub moved : Given → Found

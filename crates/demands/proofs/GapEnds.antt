@@ -45,14 +45,14 @@ use Rattle.demands.specs.Calls as calls
 use Rattle.demands.specs.Calls.{Call, State, tableStep, Sound, Lawful}
 use Rattle.demands.specs.Channel.{Channel, Told, names, isCid, own, wrapperOn, one, live, channelAt, viewAt, planned, elapsedOn}
 use Rattle.demands.specs.Order.{over, everOver, timeOf, timeIn, bound}
-use Rattle.demands.proofs.Running.{Each, none, more, Own, along}
-use Rattle.demands.proofs.Kept.{kept-before, terms-kept, gap-kept}
-use Rattle.demands.proofs.OneStep.{brought, Does, answers, wraps, passes, leaves, does}
+use Rattle.demands.proofs.Lemmas.Running.{Each, none, more, Own, along}
+use Rattle.demands.proofs.Lemmas.Kept.{kept-before, terms-kept, gap-kept}
+use Rattle.demands.proofs.Lemmas.OneStep.{brought, Does, answers, wraps, passes, leaves, does}
 use Rattle.demands.proofs.OwnStepsOnly.{Joined, own-law}
 use Rattle.demands.proofs.OwnStepsOnly as example
-use Rattle.demands.proofs.Slabs.{slab}
-use Rattle.demands.proofs.Sounds.{sound-by}
-use Rattle.demands.proofs.Sample as sample
+use Rattle.demands.proofs.Lemmas.Slabs.{slab}
+use Rattle.demands.proofs.Lemmas.Sounds.{sound-by}
+use Rattle.demands.proofs.Lemmas.Sample as sample
 
 -- ---- how much time a gap has left
 

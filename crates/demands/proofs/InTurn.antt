@@ -66,17 +66,17 @@ use Rattle.demands.specs.Calls as calls
 use Rattle.demands.specs.Calls.{Call, State, tableStep, Sound, Lawful, Right}
 use Rattle.demands.specs.Channel.{Channel, Told, own, one, live, channelAt, viewAt, planned, elapsedOn, names, isCid}
 use Rattle.demands.specs.Order.{deliveredIn, deliveredAll, InTurn, reliableNumbers, following}
-use Rattle.demands.proofs.Running.{Each, none, more, own-each, along}
-use Rattle.demands.proofs.OneStep.{refuses, joins, brought, Does, answers, wraps, passes, leaves, does}
-use Rattle.demands.proofs.Asks as asks
-use Rattle.demands.proofs.Asks.{Asks}
-use Rattle.demands.proofs.Sounds.{either}
-use Rattle.demands.proofs.OneMessage.{lent-length}
-use Rattle.demands.proofs.Brought.{wrapper-says}
+use Rattle.demands.proofs.Lemmas.Running.{Each, none, more, own-each, along}
+use Rattle.demands.proofs.Lemmas.OneStep.{refuses, joins, brought, Does, answers, wraps, passes, leaves, does}
+use Rattle.demands.proofs.Lemmas.Asks as asks
+use Rattle.demands.proofs.Lemmas.Asks.{Asks}
+use Rattle.demands.proofs.Lemmas.Sounds.{either}
+use Rattle.demands.proofs.Lemmas.OneMessage.{lent-length}
+use Rattle.demands.proofs.Lemmas.Brought.{wrapper-says}
 use Rattle.demands.proofs.TableStays.{table-stays}
 use Rattle.demands.proofs.OwnStepsOnly.{Joined, own-law}
 use Rattle.demands.proofs.OwnStepsOnly as example
-use Rattle.demands.proofs.Sample as sample
+use Rattle.demands.proofs.Lemmas.Sample as sample
 use Rattle.demands.proofs.NothingInvented.{BroughtBy, here, later, From, received, kept, each-to, nothing-invented, comes, lawful-comes, delivers-both}
 
 -- ---- one step

@@ -14,11 +14,11 @@ use Rattle.member.specs.Sizes.{deliverSize, replySize, messageSizes, elapsedSiz
 use Rattle.member.specs.Messages.{messageOutcome}
 use Rattle.member.specs.Elapsing.{elapsedOutcome, passed}
 use Rattle.member.specs.Leaving.{leaveOutcome}
-use Rattle.demands.proofs.Checks.{firstOf}
+use Rattle.demands.proofs.Lemmas.Checks.{firstOf}
 use Rattle.demands.proofs.Refusals.{messageChecks, elapsedChecks, leaveChecks, Stands, message-leaves, elapsed-leaves, leave-leaves}
 use Rattle.demands.proofs.Frame.{moved, Still, message-frame}
 use Rattle.demands.proofs.OwnStepsOnly as example
-use Rattle.demands.proofs.Sample as sample
+use Rattle.demands.proofs.Lemmas.Sample as sample
 use Rattle.demands.proofs.InTurn.{makes-with}
 
 -- ---- refused calls

@@ -55,14 +55,14 @@ use Rattle.demands.specs.Calls as calls
 use Rattle.demands.specs.Calls.{Call, State, tableStep, Lawful}
 use Rattle.demands.specs.Channel.{Channel, Told, isWrapper, names, isCid, own, wrapperOn, one, live, channelAt, viewAt, passed, planned, elapsedOn}
 use Rattle.demands.specs.Order.{deliveredIn, deliveredAll}
-use Rattle.demands.proofs.Running.{Each, none, more, along}
-use Rattle.demands.proofs.Slabs.{slab, slab-place, slab-after}
-use Rattle.demands.proofs.OneStep.{refuses, joins, brought, Does, answers, wraps, passes, leaves, does}
-use Rattle.demands.proofs.Owned.{Has, it-has}
-use Rattle.demands.proofs.Agreeing.{elapsed-places}
+use Rattle.demands.proofs.Lemmas.Running.{Each, none, more, along}
+use Rattle.demands.proofs.Lemmas.Slabs.{slab, slab-place, slab-after}
+use Rattle.demands.proofs.Lemmas.OneStep.{refuses, joins, brought, Does, answers, wraps, passes, leaves, does}
+use Rattle.demands.proofs.Lemmas.Owned.{Has, it-has}
+use Rattle.demands.proofs.Lemmas.Agreeing.{elapsed-places}
 use Rattle.demands.proofs.OwnStepsOnly.{Joined, own-law}
 use Rattle.demands.proofs.OwnStepsOnly as example
-use Rattle.demands.proofs.Sample as sample
+use Rattle.demands.proofs.Lemmas.Sample as sample
 
 -- the wrapper that a call brings, as it is delivered
 abbrev pub asSent : ℕ → List ℕ → Delivered

@@ -39,14 +39,14 @@ use Rattle.demands.specs.Runs.{Came, run, ownOf, alone, shown}
 use Rattle.demands.specs.Calls as calls
 use Rattle.demands.specs.Calls.{Call, State, tableStep, Sound, Lawful, Right}
 use Rattle.demands.specs.Channel.{Channel, Told, passed, isCid, own, elapsedOn, one, live, channelAt, viewAt}
-use Rattle.demands.proofs.Running.{Each, none, more, own-each, Own, shown-alone, Likeness, alike-alone}
+use Rattle.demands.proofs.Lemmas.Running.{Each, none, more, own-each, Own, shown-alone, Likeness, alike-alone}
 use Rattle.demands.proofs.TableStays.{table-stays}
-use Rattle.demands.proofs.Sounds.{Both, sound-by}
-use Rattle.demands.proofs.Slabs.{slab, slab-place}
-use Rattle.demands.proofs.TermsStay.{one-terms}
-use Rattle.demands.proofs.Owned.{it-has}
-use Rattle.demands.proofs.OneCall.{call-own, call-other}
-use Rattle.demands.proofs.Agreeing.{AgreeIn, Tells, one-tells}
+use Rattle.demands.proofs.Lemmas.Sounds.{Both, sound-by}
+use Rattle.demands.proofs.Lemmas.Slabs.{slab, slab-place}
+use Rattle.demands.proofs.Lemmas.TermsStay.{one-terms}
+use Rattle.demands.proofs.Lemmas.Owned.{it-has}
+use Rattle.demands.proofs.Lemmas.OneCall.{call-own, call-other}
+use Rattle.demands.proofs.Lemmas.Agreeing.{AgreeIn, Tells, one-tells}
 
 -- a state in which record i has the channel
 pub record Joined (i : ℕ) (owner : Cid) (channel : ℕ) (s : State) : Type 0 where

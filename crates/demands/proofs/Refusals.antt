@@ -42,7 +42,7 @@ use Rattle.member.specs.Sizes.{cellSize, messageSizes, elapsedSizes, leaveSizes
 use Rattle.member.specs.Messages.{Outcome, isFound, refusedMessage, joinOutcome, planOutcome, steppedOutcome, wrapperOutcome, askedOutcome, messageOutcome, numberOf, messaged, deliverAfter, replyAfter}
 use Rattle.member.specs.Elapsing.{longest, Passing, refusedElapsed, passing, elapsedOutcome, passed, cellsFrom, cellsAfter}
 use Rattle.member.specs.Leaving.{Departing, refusedLeave, departing, leaveFor, leaveOutcome, leftReply}
-use Rattle.demands.proofs.Checks.{Check, firstOf, First, None, Numbered, empty, numbered, first-is-given, given-is-first, none-is-given, given-is-none}
+use Rattle.demands.proofs.Lemmas.Checks.{Check, firstOf, First, None, Numbered, empty, numbered, first-is-given, given-is-first, none-is-given, given-is-none}
 
 -- ---- the conditions
 

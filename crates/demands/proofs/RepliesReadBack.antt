@@ -70,12 +70,12 @@ use Rattle.writing.specs.Fits.{Octets, FitCid, FitMembership, Fits}
 use Rattle.writing.specs.Writing.{vectorOf, addressOf, hasForm, contentsOf, pduOf}
 use Rattle.sending.specs.Sent.{sentOf, replyOf, eventOf, welcomeOf, joinReplyOf}
 use Rattle.demands.specs.Calls.{Sound}
-use Rattle.demands.proofs.Back.{short, message-back}
-use Rattle.demands.proofs.Sounds.{either, Both, taken-sound}
-use Rattle.demands.proofs.Brought.{number-short}
-use Rattle.demands.proofs.Kept.{terms-kept}
+use Rattle.demands.proofs.Lemmas.Back.{short, message-back}
+use Rattle.demands.proofs.Lemmas.Sounds.{either, Both, taken-sound}
+use Rattle.demands.proofs.Lemmas.Brought.{number-short}
+use Rattle.demands.proofs.Lemmas.Kept.{terms-kept}
 use Rattle.demands.proofs.OwnStepsOnly as example
-use Rattle.demands.proofs.Sample as sample
+use Rattle.demands.proofs.Lemmas.Sample as sample
 
 -- ---- what is read from octets
 

@@ -33,7 +33,7 @@ use Rattle.member.specs.Messages.{Outcome, planOutcome, messageOutcome, message
 use Rattle.member.specs.Elapsing.{Passing, sentBy, cellsFrom, cellsAfter}
 use Rattle.member.specs.Leaving.{Departing, leftReply}
 use Rattle.demands.specs.Calls.{State, Right}
-use Rattle.demands.proofs.Outcomes.{Carries, message-cases}
+use Rattle.demands.proofs.Lemmas.Outcomes.{Carries, message-cases}
 
 -- deliveries that have cells: five at most, each as long as it says
 pub record Stand (ds : List Delivered) : Type 0 where

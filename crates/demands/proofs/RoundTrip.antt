@@ -26,8 +26,8 @@ use Rattle.writing.specs.Fields.{wrapperOctets, fieldsOf}
 use Rattle.writing.specs.Fits.{Fits}
 use Rattle.writing.specs.Writing.{most, vectorOf, addressOf, hasForm, carriedOf, contentsOf, pduOf, wrote, roomAfter}
 use Rattle.writing.specs.declared.Wrote.the-variants as answer
-use Rattle.demands.proofs.Back.{message-back, length-behind-head, alone, not-refused, in-room}
-use Rattle.demands.proofs.Again.{again}
+use Rattle.demands.proofs.Lemmas.Back.{message-back, length-behind-head, alone, not-refused, in-room}
+use Rattle.demands.proofs.Lemmas.Again.{again}
 
 -- ---- what is written is read back
 

@@ -5,8 +5,8 @@ use Rattle.gap.proofs.Stays.{terms-stay}
 use Rattle.demands.specs.Runs.{Came}
 use Rattle.demands.specs.Calls.{Call}
 use Rattle.demands.specs.Channel.{Channel, Told, planned, elapsedOn, one}
-use Rattle.demands.proofs.Kept.{terms-kept}
-use Rattle.demands.proofs.OneStep.{brought, Does, answers, wraps, passes, leaves, does}
+use Rattle.demands.proofs.Lemmas.Kept.{terms-kept}
+use Rattle.demands.proofs.Lemmas.OneStep.{brought, Does, answers, wraps, passes, leaves, does}
 
 pub one-terms : (h : Channel) (owner : Cid) (c : Call) → one owner h c .state .at .terms ≡ h .at .terms
 unfolding planned elapsedOn

@@ -32,9 +32,9 @@ use Rattle.demands.specs.Calls.{Call, State, elapsedCame, leaveCame, tab
 use Rattle.demands.specs.Channel as channels
 use Rattle.demands.specs.Channel.{Channel, Told, refused, left, stays, elapsedOn, leaveOn, one, isCid, own, entryAt, channelAt, viewAt}
 use Rattle.demands.proofs.Refusals.{standing}
-use Rattle.demands.proofs.Slabs.{slab}
-use Rattle.demands.proofs.Owned.{sender-is, is-sender, leave-sizes, Has, it-has, meets}
-use Rattle.demands.proofs.OneMessage.{message-own, message-other}
+use Rattle.demands.proofs.Lemmas.Slabs.{slab}
+use Rattle.demands.proofs.Lemmas.Owned.{sender-is, is-sender, leave-sizes, Has, it-has, meets}
+use Rattle.demands.proofs.Lemmas.OneMessage.{message-own, message-other}
 
 -- ---- elapsed time
 
