@@ -40,12 +40,12 @@ use Rattle.table.specs.Table.{same, named, differs, tableFormed, freshPlace}
 use Rattle.table.proofs.Tables as tables
 use Rattle.member.specs.Sizes.{tableSize, messageSizes, elapsedSizes}
 use Rattle.member.specs.Elapsing.{longest}
-use Rattle.demands.specs.Runs.{Came, run, ownOf, shown}
+use Rattle.demands.specs.Runs.{Came, run, ownOf, shown, Each, none, more}
 use Rattle.demands.specs.Calls as calls
 use Rattle.demands.specs.Calls.{Call, State, tableStep, Sound, Lawful}
 use Rattle.demands.specs.Channel.{Channel, Told, names, isCid, own, wrapperOn, one, live, channelAt, viewAt, planned, elapsedOn}
 use Rattle.demands.specs.Order.{over, everOver, timeOf, timeIn, bound}
-use Rattle.demands.proofs.Lemmas.Running.{Each, none, more, Own, along}
+use Rattle.demands.proofs.Lemmas.Running.{Own, along}
 use Rattle.demands.proofs.Lemmas.Kept.{kept-before, terms-kept, gap-kept}
 use Rattle.demands.proofs.Lemmas.OneStep.{brought, Does, answers, wraps, passes, leaves, does}
 use Rattle.demands.proofs.OwnStepsOnly.{Joined, own-law}

@@ -61,12 +61,12 @@ use Rattle.asking.specs.declared.Asked.{Asked}
 use Rattle.member.specs.Sizes.{tableSize, heldSize, deliverSize, replySize, messageSizes}
 use Rattle.member.specs.Messages.{Outcome, refusedMessage, existingAt, isFound, joinDone, joinOutcome, planOutcome, wrapperOutcome, askedOutcome, messageOutcome}
 use Rattle.member.specs.declared.Given.the-variants as given
-use Rattle.demands.specs.Runs.{Came, run, ownOf, shown}
+use Rattle.demands.specs.Runs.{Came, run, ownOf, shown, Each, none, more}
 use Rattle.demands.specs.Calls as calls
 use Rattle.demands.specs.Calls.{Call, State, tableStep, Sound, Lawful, Right}
 use Rattle.demands.specs.Channel.{Channel, Told, own, one, live, channelAt, viewAt, planned, elapsedOn, names, isCid}
 use Rattle.demands.specs.Order.{deliveredIn, deliveredAll, InTurn, reliableNumbers, following}
-use Rattle.demands.proofs.Lemmas.Running.{Each, none, more, own-each, along}
+use Rattle.demands.proofs.Lemmas.Running.{own-each, along}
 use Rattle.demands.proofs.Lemmas.OneStep.{refuses, joins, brought, Does, answers, wraps, passes, leaves, does}
 use Rattle.demands.proofs.Lemmas.Asks as asks
 use Rattle.demands.proofs.Lemmas.Asks.{Asks}

@@ -50,12 +50,12 @@ use Rattle.carry.proofs.DeliveredLength.{of-first}
 use Rattle.carry.proofs.OwnPlaces.{other-place}
 use Rattle.carry.proofs.PlanFits.{Kept, Taking, taking, used-below}
 use Rattle.member.specs.Sizes.{messageSizes, elapsedSizes}
-use Rattle.demands.specs.Runs.{Came, run, ownOf, alone, shown}
+use Rattle.demands.specs.Runs.{Came, run, ownOf, alone, shown, Each, none, more}
 use Rattle.demands.specs.Calls as calls
 use Rattle.demands.specs.Calls.{Call, State, tableStep, Lawful}
 use Rattle.demands.specs.Channel.{Channel, Told, isWrapper, names, isCid, own, wrapperOn, one, live, channelAt, viewAt, passed, planned, elapsedOn}
 use Rattle.demands.specs.Order.{deliveredIn, deliveredAll}
-use Rattle.demands.proofs.Lemmas.Running.{Each, none, more, along}
+use Rattle.demands.proofs.Lemmas.Running.{along}
 use Rattle.demands.proofs.Lemmas.Slabs.{slab, slab-place, slab-after}
 use Rattle.demands.proofs.Lemmas.OneStep.{refuses, joins, brought, Does, answers, wraps, passes, leaves, does}
 use Rattle.demands.proofs.Lemmas.Owned.{Has, it-has}

@@ -35,11 +35,11 @@ use Rattle.carry.proofs.PlanFits.{used-below}
 use Rattle.carry.proofs.DeliveredLength.{each-at}
 use Rattle.sending.specs.Sent.{eventOf}
 use Rattle.member.specs.Sizes.{heldSize, elapsedSizes}
-use Rattle.demands.specs.Runs.{Came, run, ownOf, alone, shown}
+use Rattle.demands.specs.Runs.{Came, run, ownOf, alone, shown, Each, none, more}
 use Rattle.demands.specs.Calls as calls
 use Rattle.demands.specs.Calls.{Call, State, tableStep, Sound, Lawful, Right}
 use Rattle.demands.specs.Channel.{Channel, Told, passed, isCid, own, elapsedOn, one, live, channelAt, viewAt}
-use Rattle.demands.proofs.Lemmas.Running.{Each, none, more, own-each, Own, shown-alone, Likeness, alike-alone}
+use Rattle.demands.proofs.Lemmas.Running.{own-each, Own, shown-alone, Likeness, alike-alone}
 use Rattle.demands.proofs.TableStays.{table-stays}
 use Rattle.demands.proofs.Lemmas.Sounds.{Both, sound-by}
 use Rattle.demands.proofs.Lemmas.Slabs.{slab, slab-place}

@@ -44,80 +44,6 @@ use Rattle.member.specs.Elapsing.{longest, Passing, refusedElapsed, passing, el
 use Rattle.member.specs.Leaving.{Departing, refusedLeave, departing, leaveFor, leaveOutcome, leftReply}
 use Rattle.demands.proofs.Lemmas.Checks.{Check, firstOf, First, None, Numbered, empty, numbered, first-is-given, given-is-first, none-is-given, given-is-none}
 
--- ---- the conditions
-
-abbrev pub check : ℕ → Bool → Check
-check n b = record { number = n; holds = b }
-
--- 4: no base message that is built, or its data has a length or an address form that is not listed. An ACK is wrapped
-abbrev pub unreadable : ℕ → List ℕ → Bool
-unreadable v d = eqb v ack || not (readable v d)
-
-abbrev pub isWrapper : ℕ → Bool
-isWrapper v = eqb v reliableWrapper || eqb v unreliableWrapper
-
--- 5: no wrapper, and no Join that names our component
-abbrev pub notForUs : List ℕ → ℕ → List ℕ → Bool
-notForUs ours v d = not (isWrapper v) && not (eqb v join && same (joinOf d .cid) (cidAt ours 0))
-
--- where the table has the channel that a wrapper names
-abbrev pub ownPlace : List Record → List ℕ → List ℕ → Found
-ownPlace ts sender d = found 0 (cidAt sender 0) (wrapperOf d .channel) ts
-
--- 6: a wrapper whose owner and channel no record has
-abbrev pub noRecord : List Record → List ℕ → ℕ → List ℕ → Bool
-noRecord ts sender v d = isWrapper v && not (isFound (ownPlace ts sender d))
-
--- 7: a wrapper with contents over 1,454
-abbrev pub tooLong : ℕ → List ℕ → Bool
-tooLong v d = isWrapper v && ltb mostContents (length (contents d))
-
-abbrev pub recordOf : List Record → Found → Record
-recordOf ts (search.At i) = recordAt ts i
-recordOf ts search.Nowhere = blank []
-
--- step 1 of the wrapper on its own record
-abbrev pub judgement : List Record → List ℕ → ℕ → List ℕ → Judged
-judgement ts sender v d =
-    judged (recordOf ts (ownPlace ts sender d)) (eqb v reliableWrapper) (wrapperOf d .total) (wrapperOf d .reliable)
-
-abbrev pub isOld : Judged → Bool
-isOld judging.Old = true
-isOld judging.Inconsistent = false
-isOld judging.Fresh = false
-
-abbrev pub isInconsistent : Judged → Bool
-isInconsistent judging.Old = false
-isInconsistent judging.Inconsistent = true
-isInconsistent judging.Fresh = false
-
--- the order of a message call
-abbrev pub messageChecks : List Record → List ℕ → ℕ → ℕ → List ℕ → List ℕ → ℕ → List ℕ → List Check
-messageChecks ts held deliver reply sender ours v d =
-    check 1 (not (messageSizes (length ts) (length held) deliver reply (length sender) (length ours)))
-    ∷ check 2 (not (tableFormed ts))
-    ∷ check 4 (unreadable v d)
-    ∷ check 5 (notForUs ours v d)
-    ∷ check 6 (noRecord ts sender v d)
-    ∷ check 7 (tooLong v d)
-    ∷ check 8 (isWrapper v && isOld (judgement ts sender v d))
-    ∷ check 9 (isWrapper v && isInconsistent (judgement ts sender v d))
-    ∷ []
-
--- that of an elapsed call
-abbrev pub elapsedChecks : List Record → ℕ → ℕ → List Check
-elapsedChecks ts cells ms =
-    check 1 (not (elapsedSizes (length ts) cells)) ∷ check 2 (not (tableFormed ts)) ∷ check 3 (ltb longest ms) ∷ []
-
--- and of a leave call
-abbrev pub leaveChecks : List Record → ℕ → List ℕ → ℕ → ℕ → List Check
-leaveChecks ts reply owner channel reason =
-    check 1 (not (leaveSizes (length ts) reply (length owner)))
-    ∷ check 2 (not (tableFormed ts))
-    ∷ check 6 (not (isFound (found 0 (cidAt owner 0) channel ts)))
-    ∷ check 10 (not (leavingReason reason))
-    ∷ []
-
 -- ---- elapsed and leave calls
 
 -- refused by a number with everything as before, or accepted
@@ -348,14 +274,6 @@ told-number ts held k o (accepted p e) = e
 pub message-number : (ts : List Record) (held : List ℕ) (deliver reply : ℕ) (sender ours : List ℕ) (v : ℕ) (d : List ℕ) (n : ℕ)
     → numberOf (messageOutcome ts held deliver reply sender ours v d n .given) ≡ firstOf (messageChecks ts held deliver reply sender ours v d)
 message-number ts held deliver reply sender ours v d n = told-number ts held _ _ (message-told ts held deliver reply sender ours v d n)
-
--- everything as before: the table, the held octets, and every octet of the two rooms; and the answer is the number alone
-pub record Stands (ts : List Record) (h dr rr : List ℕ) (number : ℕ) (out : Outcome) : Type 0 where
-  pub table : out .table ≡ ts
-  pub held : out .held ≡ h
-  pub deliver : deliverAfter out dr ≡ dr
-  pub reply : replyAfter out rr ≡ rr
-  pub answer : messaged out ≡ messaged (refusedMessage ts [] number)
 
 -- a refused message call leaves everything
 pub message-leaves : (ts : List Record) (held deliver reply sender ours : List ℕ) (v : ℕ) (d : List ℕ) (n : ℕ)

@@ -4,26 +4,6 @@ use mathlib.Core.Path.{_≡_, refl, sym}
 use mathlib.Core.Bool.{Bool, true, false, cond}
 use mathlib.Core.List.{List, [], _∷_}
 
--- a refusal's number, and whether its condition holds
-pub record Check : Type 0 where
-  pub number : ℕ
-  pub holds : Bool
-
--- the number of the first check that holds; 0 if none does
-unfoldable pub firstOf : List Check → ℕ
-firstOf [] = 0
-firstOf (c ∷ cs) = cond (c .holds) (c .number) (firstOf cs)
-
--- the condition of number n holds, and no earlier one
-pub data First (n : ℕ) : List Check → Type 0 where
-  here : (cs : List Check) → First n (record { number = n; holds = true } ∷ cs)
-  later : (m : ℕ) (cs : List Check) → First n cs → First n (record { number = m; holds = false } ∷ cs)
-
--- no condition holds
-pub data None : List Check → Type 0 where
-  none : None []
-  also : (m : ℕ) (cs : List Check) → None cs → None (record { number = m; holds = false } ∷ cs)
-
 -- no number of a refusal is 0
 pub data Numbered : List Check → Type 0 where
   empty : Numbered []
