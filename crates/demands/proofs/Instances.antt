@@ -11,11 +11,11 @@ use Rattle.table.specs.Table.{found, named, tableFormed, freeTable}
 use Rattle.table.specs.declared.Found.the-variants as search
 use Rattle.table.proofs.Tables.{free-table-formed}
 use Rattle.member.specs.Sizes.{deliverSize, replySize, messageSizes, elapsedSizes, leaveSizes}
-use Rattle.member.specs.Messages.{messageOutcome}
-use Rattle.member.specs.Elapsing.{elapsedOutcome, passed}
-use Rattle.member.specs.Leaving.{leaveOutcome}
-use Rattle.demands.proofs.Lemmas.Checks.{firstOf}
-use Rattle.demands.proofs.Refusals.{messageChecks, elapsedChecks, leaveChecks, Stands, message-leaves, elapsed-leaves, leave-leaves}
+use Rattle.member.specs.Messages.{messageOutcome, messageEnd}
+use Rattle.member.specs.Elapsing.{elapsedOutcome, elapsedEnd}
+use Rattle.member.specs.Leaving.{leaveOutcome, leaveEnd}
+use Rattle.demands.specs.Refusals.{firstOf, messageChecks, elapsedChecks, leaveChecks, messageStands, elapsedStands, leaveStands}
+use Rattle.demands.proofs.Refusals.{message-leaves, elapsed-leaves, leave-leaves}
 use Rattle.demands.proofs.Frame.{moved, Still, message-frame}
 use Rattle.demands.proofs.OwnStepsOnly as example
 use Rattle.demands.proofs.Lemmas.Sample as sample
@@ -28,7 +28,7 @@ unfolding firstOf messageSizes freeTable
 wrong-size deliver reply sender ours v d = refl
 
 refused-message : (deliver reply sender ours : List ℕ) (v : ℕ) (d : List ℕ) (n : ℕ)
-    → Stands freeTable [] deliver reply 1 (messageOutcome freeTable [] (length deliver) (length reply) sender ours v d n)
+    → messageEnd (messageOutcome freeTable [] (length deliver) (length reply) sender ours v d n) deliver reply ≡ messageStands freeTable [] deliver reply 1
 refused-message deliver reply sender ours v d n =
     rw (wrong-size deliver reply sender ours v d) at
     (message-leaves freeTable [] deliver reply sender ours v d n (λ e. absurd (omega (arith, sym (wrong-size deliver reply sender ours v d) ∙ e))))
@@ -37,15 +37,20 @@ too-long : firstOf (elapsedChecks freeTable 512 1001) ≡ 3
 unfolding firstOf elapsedSizes freeTable tableFormed
 too-long = rw free-table-formed
 
-refused-elapsed : (room : List ℕ) → passed (elapsedOutcome freeTable 512 1001) .table ≡ freeTable
-refused-elapsed room = elapsed-leaves freeTable 512 1001 room (λ e. absurd (omega (arith, sym too-long ∙ e))) .0
+refused-elapsed : (cells : List ℕ) → length cells ≡ 512 → elapsedEnd (elapsedOutcome freeTable (length cells) 1001) cells ≡ elapsedStands freeTable cells 3
+refused-elapsed cells l =
+    let three : firstOf (elapsedChecks freeTable (length cells) 1001) ≡ 3 = rw l too-long in
+    rw three at (elapsed-leaves freeTable cells 1001 (λ e. absurd (omega (arith, sym three ∙ e))))
 
 nobody : firstOf (leaveChecks freeTable 64 (replicate 16 0) 7 1) ≡ 6
 unfolding firstOf leaveSizes found named freeTable tableFormed
 nobody = rw free-table-formed
 
-refused-leave : (room : List ℕ) → leaveOutcome freeTable 64 (replicate 16 0) 7 1 .table ≡ freeTable
-refused-leave room = leave-leaves freeTable 64 (replicate 16 0) 7 1 room (λ e. absurd (omega (arith, sym nobody ∙ e))) .0
+refused-leave : (reply : List ℕ) → length reply ≡ 64
+    → leaveEnd (leaveOutcome freeTable (length reply) (replicate 16 0) 7 1) reply ≡ leaveStands freeTable reply 6
+refused-leave reply l =
+    let six : firstOf (leaveChecks freeTable (length reply) (replicate 16 0) 7 1) ≡ 6 = rw l nobody in
+    rw six at (leave-leaves freeTable reply (replicate 16 0) 7 1 (λ e. absurd (omega (arith, sym six ∙ e))))
 
 -- ---- a call that moves one record
 

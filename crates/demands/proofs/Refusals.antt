@@ -33,16 +33,17 @@ use Rattle.gap.specs.Elapsed.{gives}
 use Rattle.gap.specs.declared.Event.the-variants as event
 use Rattle.sending.specs.Sent.{eventOf}
 use Rattle.carry.specs.Carried.{deliverFrom}
-use Rattle.table.specs.Table.{same, found, tableFormed, recordAt, blank}
+use Rattle.table.specs.Table.{same, found, tableFormed, recordAt}
 use Rattle.table.specs.declared.Found.{Found}
 use Rattle.table.specs.declared.Found.the-variants as search
 use Rattle.asking.specs.Asking.{arrivedOf, wrapperFor, wrapperAsks, joinAsks, messageAsks, readAsks, askedOf}
 use Rattle.asking.specs.declared.Asked.the-variants as asked
 use Rattle.member.specs.Sizes.{cellSize, messageSizes, elapsedSizes, leaveSizes}
-use Rattle.member.specs.Messages.{Outcome, isFound, refusedMessage, joinOutcome, planOutcome, steppedOutcome, wrapperOutcome, askedOutcome, messageOutcome, numberOf, messaged, deliverAfter, replyAfter}
-use Rattle.member.specs.Elapsing.{longest, Passing, refusedElapsed, passing, elapsedOutcome, passed, cellsFrom, cellsAfter}
-use Rattle.member.specs.Leaving.{Departing, refusedLeave, departing, leaveFor, leaveOutcome, leftReply}
-use Rattle.demands.proofs.Lemmas.Checks.{Check, firstOf, First, None, Numbered, empty, numbered, first-is-given, given-is-first, none-is-given, given-is-none}
+use Rattle.member.specs.Messages.{Outcome, isFound, refusedMessage, joinOutcome, planOutcome, steppedOutcome, wrapperOutcome, askedOutcome, messageOutcome, numberOf, messaged, messageEnd}
+use Rattle.member.specs.Elapsing.{longest, Passing, refusedElapsed, passing, elapsedOutcome, cellOf, cellsFrom, elapsedEnd}
+use Rattle.member.specs.Leaving.{Departing, refusedLeave, departing, leaveFor, leaveOutcome, left, leaveEnd}
+use Rattle.demands.specs.Refusals.{Check, firstOf, First, None, check, unreadable, isWrapper, tooLong, recordOf, isOld, isInconsistent, messageChecks, elapsedChecks, leaveChecks, messageStands, elapsedStands, leaveStands}
+use Rattle.demands.proofs.Lemmas.Checks.{Numbered, empty, numbered, first-is-given, given-is-first, none-is-given, given-is-none}
 
 -- ---- elapsed and leave calls
 
@@ -82,15 +83,23 @@ silent [] i room = refl
 silent (r ∷ ts) i room =
     ap (λ after. cellsFrom (i + 1) (map (λ r. gives r event.Nothing) ts) after) (sym (splice-nothing room (i * cellSize))) ∙ silent ts (i + 1) room
 
+quiet-cells : (ts : List Record) → map cellOf (map (λ r. gives r event.Nothing) ts) ≡ map (λ r. record { event = event.Nothing; len = 0 }) ts
+unfolding eventOf
+quiet-cells [] = refl
+quiet-cells (r ∷ ts) = ap (λ cs. record { event = event.Nothing; len = 0 } ∷ cs) (quiet-cells ts)
+
 -- a refused elapsed call leaves the table and every octet of the cells, and answers its number alone: no record has sent anything
-pub elapsed-leaves : (ts : List Record) (cells ms : ℕ) (room : List ℕ) → (firstOf (elapsedChecks ts cells ms) ≡ 0 → ⊥)
-    → (passed (elapsedOutcome ts cells ms) .table ≡ ts)
-    × (cellsAfter (elapsedOutcome ts cells ms) room ≡ room)
-    × (elapsedOutcome ts cells ms ≡ refusedElapsed ts (firstOf (elapsedChecks ts cells ms)))
-elapsed-leaves ts cells ms room z = by (elapsed-told ts cells ms) z
+pub elapsed-leaves : (ts : List Record) (cells : List ℕ) (ms : ℕ) → (firstOf (elapsedChecks ts (length cells) ms) ≡ 0 → ⊥)
+    → elapsedEnd (elapsedOutcome ts (length cells) ms) cells ≡ elapsedStands ts cells (firstOf (elapsedChecks ts (length cells) ms))
+elapsed-leaves ts cells ms z = by (elapsed-told ts (length cells) ms) z
   where
-    by : {k : ℕ} {p : Passing} → Elapsed ts k p → (k ≡ 0 → ⊥) → (passed p .table ≡ ts) × (cellsAfter p room ≡ room) × (p ≡ refusedElapsed ts k)
-    by (refused n) z = (standing ts, silent ts 0 room, refl)
+    by : {k : ℕ} {p : Passing} → Elapsed ts k p → (k ≡ 0 → ⊥) → elapsedEnd p cells ≡ elapsedStands ts cells k
+    by (refused n) z =
+        λ i.
+        record {
+          answer = record { table = standing ts i; number = n; cells = quiet-cells ts i };
+          cells = silent ts 0 cells i;
+        }
     by (accepted p e) z = absurd (z refl)
 
 pub data Left (ts : List Record) : ℕ → Departing → Type 0 where
@@ -122,15 +131,14 @@ leave-number ts reply owner channel reason = by (leave-told ts reply owner chann
     by (accepted p e) = e
 
 -- a refused leave call leaves the table and every octet of the reply room, and answers its number alone
-pub leave-leaves : (ts : List Record) (reply : ℕ) (owner : List ℕ) (channel reason : ℕ) (room : List ℕ)
-    → (firstOf (leaveChecks ts reply owner channel reason) ≡ 0 → ⊥)
-    → (leaveOutcome ts reply owner channel reason .table ≡ ts)
-    × (leftReply (leaveOutcome ts reply owner channel reason) room ≡ room)
-    × (leaveOutcome ts reply owner channel reason ≡ refusedLeave ts (firstOf (leaveChecks ts reply owner channel reason)))
-leave-leaves ts reply owner channel reason room z = by (leave-told ts reply owner channel reason) z
+pub leave-leaves : (ts : List Record) (reply owner : List ℕ) (channel reason : ℕ)
+    → (firstOf (leaveChecks ts (length reply) owner channel reason) ≡ 0 → ⊥)
+    → leaveEnd (leaveOutcome ts (length reply) owner channel reason) reply
+    ≡ leaveStands ts reply (firstOf (leaveChecks ts (length reply) owner channel reason))
+leave-leaves ts reply owner channel reason z = by (leave-told ts (length reply) owner channel reason) z
   where
-    by : {k : ℕ} {p : Departing} → Left ts k p → (k ≡ 0 → ⊥) → (p .table ≡ ts) × (leftReply p room ≡ room) × (p ≡ refusedLeave ts k)
-    by (refused n) z = (refl, sym (splice-nothing room 0), refl)
+    by : {k : ℕ} {p : Departing} → Left ts k p → (k ≡ 0 → ⊥) → leaveEnd p reply ≡ leaveStands ts reply k
+    by (refused n) z = λ i. record { answer = left (refusedLeave ts n); reply = sym (splice-nothing reply 0) i }
     by (accepted p e) z = absurd (z refl)
 
 -- ---- a message call
@@ -275,16 +283,23 @@ pub message-number : (ts : List Record) (held : List ℕ) (deliver reply : ℕ) 
     → numberOf (messageOutcome ts held deliver reply sender ours v d n .given) ≡ firstOf (messageChecks ts held deliver reply sender ours v d)
 message-number ts held deliver reply sender ours v d n = told-number ts held _ _ (message-told ts held deliver reply sender ours v d n)
 
--- a refused message call leaves everything
+-- a refused message call leaves the table, the held octets and every octet of the two rooms, and answers its number alone
 pub message-leaves : (ts : List Record) (held deliver reply sender ours : List ℕ) (v : ℕ) (d : List ℕ) (n : ℕ)
     → (firstOf (messageChecks ts held (length deliver) (length reply) sender ours v d) ≡ 0 → ⊥)
-    → Stands ts held deliver reply (firstOf (messageChecks ts held (length deliver) (length reply) sender ours v d))
-    (messageOutcome ts held (length deliver) (length reply) sender ours v d n)
+    → messageEnd (messageOutcome ts held (length deliver) (length reply) sender ours v d n) deliver reply
+    ≡ messageStands ts held deliver reply (firstOf (messageChecks ts held (length deliver) (length reply) sender ours v d))
 unfolding deliverFrom
 message-leaves ts held deliver reply sender ours v d n z = by (message-told ts held (length deliver) (length reply) sender ours v d n) z
   where
-    by : {k : ℕ} {out : Outcome} → Told ts held k out → (k ≡ 0 → ⊥) → Stands ts held deliver reply k out
-    by (refused k) z = record { table = refl; held = refl; deliver = refl; reply = sym (splice-nothing reply 0); answer = refl }
+    by : {k : ℕ} {out : Outcome} → Told ts held k out → (k ≡ 0 → ⊥) → messageEnd out deliver reply ≡ messageStands ts held deliver reply k
+    by (refused k) z =
+        λ i.
+        record {
+          answer = messaged (refusedMessage ts held k);
+          held = held;
+          deliver = deliver;
+          reply = sym (splice-nothing reply 0) i;
+        }
     by (accepted p e) z = absurd (z refl)
 
 -- ---- exactly if, both ways: number n is given exactly if its condition holds and no earlier one, and a call is accepted exactly if none holds

@@ -1,4 +1,7 @@
 pub mod Runs
 pub mod Calls
+pub mod Refusals
+pub mod Blocks
 pub mod Channel
 pub mod Order
+pub mod Examples

@@ -36,7 +36,8 @@ use Rattle.member.specs.Sizes.{messageSizes, leaveSizes, tableSize}
 use Rattle.demands.specs.Runs.{Came}
 use Rattle.demands.specs.Calls as calls
 use Rattle.demands.specs.Calls.{Call}
-use Rattle.demands.specs.Channel.{Channel, Told, wrapped, stays, planned, wrapperOn, joinOn, elapsedOn, leaveOn, one, isWrapper}
+use Rattle.demands.specs.Refusals.{isWrapper}
+use Rattle.demands.specs.Channel.{Channel, Told, wrapped, stays, planned, wrapperOn, joinOn, elapsedOn, leaveOn, one}
 use Rattle.demands.proofs.Lemmas.Slabs.{slab, slab-place, slab-after, slab-delivered}
 
 -- octets of slabs that agree in the used places of a record

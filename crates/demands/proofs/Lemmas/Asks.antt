@@ -19,7 +19,8 @@ use Rattle.record.specs.declared.Record.{Record}
 use Rattle.asking.specs.Asking.{wrapperAsks, joinAsks, messageAsks, readAsks, askedOf}
 use Rattle.asking.specs.declared.Asked.{Asked}
 use Rattle.asking.specs.declared.Asked.the-variants as asked
-use Rattle.demands.specs.Channel.{isWrapper}
+use Rattle.demands.specs.Refusals.{isWrapper}
+use Rattle.demands.specs.Channel.{}
 
 -- data d that is readable or not, of a vector v that is a reliable wrapper's, an unreliable one's, a Join's or none of these
 abbrev readAs : ℕ → List ℕ → Bool → Bool → Bool → Bool → MessageRead

@@ -3,6 +3,7 @@ use Prim.Native.Nat.{ℕ}
 use mathlib.Core.Path.{_≡_, refl, sym}
 use mathlib.Core.Bool.{Bool, true, false, cond}
 use mathlib.Core.List.{List, [], _∷_}
+use Rattle.demands.specs.Refusals.{Check, firstOf, First, here, later, None, none, also}
 
 -- no number of a refusal is 0
 pub data Numbered : List Check → Type 0 where

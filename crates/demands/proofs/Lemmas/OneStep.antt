@@ -30,7 +30,8 @@ use Rattle.member.specs.Sizes.{tableSize, messageSizes, leaveSizes}
 use Rattle.demands.specs.Runs.{Came}
 use Rattle.demands.specs.Calls as calls
 use Rattle.demands.specs.Calls.{Call}
-use Rattle.demands.specs.Channel.{Channel, Told, refused, joined, left, isWrapper, stays, planned, byStep, wrapperOn, joinOn, elapsedOn, leaveOn, one}
+use Rattle.demands.specs.Refusals.{isWrapper}
+use Rattle.demands.specs.Channel.{Channel, Told, refused, joined, left, stays, planned, byStep, wrapperOn, joinOn, elapsedOn, leaveOn, one}
 use Rattle.demands.specs.Order.{timeOf}
 
 -- a refusal, or the answer to a Join

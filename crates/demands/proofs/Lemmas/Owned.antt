@@ -19,7 +19,8 @@ use Rattle.table.proofs.Finding.{found-at, none-past}
 use Rattle.table.proofs.Tables.{TableFormed, formed, found-formed, named-is, same-is, is-same}
 use Rattle.member.specs.Sizes.{messageSizes, leaveSizes, tableSize, heldSize, cidSize}
 use Rattle.demands.specs.Calls.{State, Right}
-use Rattle.demands.specs.Channel.{isWrapper, names, isCid}
+use Rattle.demands.specs.Refusals.{isWrapper}
+use Rattle.demands.specs.Channel.{names, isCid}
 
 both : (a b : Bool) → a && b ≡ true → (a ≡ true) × (b ≡ true)
 both a b = and-eq-true-iff a b .0

@@ -3,7 +3,7 @@
 use mathlib.Core.Bool.{Bool, true, false, cond}
 use mathlib.Core.List.{List, [], _∷_, map}
 use mathlib.Core.Path.{_≡_, refl, sym, ap, ap₂, _∙_}
-use Rattle.demands.specs.Runs.{Came, Turn, run, ownOf, alone, shown, Each, none, more}
+use Rattle.demands.specs.Runs.{Came, run, ownOf, alone, shown, Each, none, more}
 
 -- the own calls of a list are as P says, and own
 pub own-each : {C : Type 0} {P : C → Type 0} (own : C → Bool) (cs : List C) → Each P cs → Each (λ c. P c × (own c ≡ true)) (ownOf own cs)
