@@ -49,7 +49,6 @@ use Rattle.demands.proofs.Lemmas.Asks as asks
 use Rattle.demands.proofs.Lemmas.Asks.{Asks}
 use Rattle.demands.proofs.Lemmas.Sounds.{either, Both}
 use Rattle.demands.proofs.Lemmas.Brought.{wrapper-says}
-use Rattle.demands.proofs.OwnStepsOnly as example
 use Rattle.demands.proofs.Lemmas.Sample as sample
 use Rattle.demands.proofs.RepliesReadBack.{ReadFrom, none-read, replyMeans, eventMeans, joinMeans, FitTerms, FitAsked, FitExisting, step-reply-read, elapsed-read, leave-read, decided-read, join-fits, existing-fits, terms-fit}
 
@@ -179,24 +178,24 @@ leave-replies ts reply owner channel reason wide =
 
 -- ---- an example: the table in which record 2 has channel 7 of the first owner, and the second owner's Join to channel 7
 
-wide-table : Wide (example.tableOf example.free)
+wide-table : Wide (sample.tableOf sample.free)
 wide-table =
-    each-at (λ r. Sound r × FitTerms (r .terms)) (blank []) (example.tableOf example.free)
+    each-at (λ r. Sound r × FitTerms (r .terms)) (blank []) (sample.tableOf sample.free)
     (free, (free, (holding, (free, (free, (free, (free, (free, tt))))))))
   where
-    free : Sound example.free × FitTerms (example.free .terms)
+    free : Sound sample.free × FitTerms (sample.free .terms)
     free = (
-      example.sound-free,
+      sample.sound-free,
       record { owner = record { high = lit< tt; low = lit< tt }; channel = lit< tt; mid = lit< tt; reciprocal = lit< tt },
     )
 
-    holding : Sound (example.holding example.first) × FitTerms (example.holding example.first .terms)
-    holding = (example.sound-holding example.first, terms-fit)
+    holding : Sound (sample.holding sample.first) × FitTerms (sample.holding sample.first .terms)
+    holding = (sample.sound-holding sample.first, terms-fit)
 
 join-replies : (held : List ℕ)
-    → ReadFrom (messageOutcome (example.tableOf example.free) held deliverSize replySize (sample.cid 3 4) (replicate 16 0) 4 sample.joinData 9 .reply) 0
-    (givenMeans (example.tableOf example.free) (cidAt (sample.cid 3 4) 0) (joinOf sample.joinData) 9
-    (messageOutcome (example.tableOf example.free) held deliverSize replySize (sample.cid 3 4) (replicate 16 0) 4 sample.joinData 9 .given))
+    → ReadFrom (messageOutcome (sample.tableOf sample.free) held deliverSize replySize (sample.cid 3 4) (replicate 16 0) 4 sample.joinData 9 .reply) 0
+    (givenMeans (sample.tableOf sample.free) (cidAt (sample.cid 3 4) 0) (joinOf sample.joinData) 9
+    (messageOutcome (sample.tableOf sample.free) held deliverSize replySize (sample.cid 3 4) (replicate 16 0) 4 sample.joinData 9 .given))
 join-replies held =
-    message-replies (example.tableOf example.free) held deliverSize replySize (sample.cid 3 4) (replicate 16 0) 4 sample.joinData 9 wide-table
+    message-replies (sample.tableOf sample.free) held deliverSize replySize (sample.cid 3 4) (replicate 16 0) 4 sample.joinData 9 wide-table
     (sample.lawful (sample.cid 3 4) refl) (sample.lawful sample.joinData refl) (lit< tt)

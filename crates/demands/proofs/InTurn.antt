@@ -74,8 +74,8 @@ use Rattle.demands.proofs.Lemmas.Sounds.{either}
 use Rattle.demands.proofs.Lemmas.OneMessage.{lent-length}
 use Rattle.demands.proofs.Lemmas.Brought.{wrapper-says}
 use Rattle.demands.proofs.TableStays.{table-stays}
-use Rattle.demands.proofs.OwnStepsOnly.{Joined, own-law}
-use Rattle.demands.proofs.OwnStepsOnly as example
+use Rattle.demands.specs.TwoRuns.{Joined}
+use Rattle.demands.proofs.OwnStepsOnly.{own-law}
 use Rattle.demands.proofs.Lemmas.Sample as sample
 use Rattle.demands.proofs.NothingInvented.{BroughtBy, here, later, From, received, kept, each-to, nothing-invented, comes, lawful-comes, delivers-both}
 
@@ -371,14 +371,14 @@ joined-in-order i owner channel s c cs j right lawful each made =
 
 -- ---- an example: on channel 7 of the first owner 11 comes while 12 is held; and a second channel is joined
 
-numbers : reliableNumbers (deliveredAll (shown (own example.first 7) (viewAt 2) live (run tableStep (example.stateOf example.free 0) comes))) ≡ 11 ∷ 12 ∷ []
+numbers : reliableNumbers (deliveredAll (shown (own sample.first 7) (viewAt 2) live (run tableStep (sample.stateOf sample.free 0) comes))) ≡ 11 ∷ 12 ∷ []
 unfolding reliableNumbers wrapperOf number
 numbers = ap reliableNumbers delivers-both
 
-in-order-of : reliableNumbers (deliveredAll (shown (own example.first 7) (viewAt 2) live (run tableStep (example.stateOf example.free 0) comes)))
-    ≡ following 10 (length (reliableNumbers (deliveredAll (shown (own example.first 7) (viewAt 2) live (run tableStep (example.stateOf example.free 0) comes)))))
+in-order-of : reliableNumbers (deliveredAll (shown (own sample.first 7) (viewAt 2) live (run tableStep (sample.stateOf sample.free 0) comes)))
+    ≡ following 10 (length (reliableNumbers (deliveredAll (shown (own sample.first 7) (viewAt 2) live (run tableStep (sample.stateOf sample.free 0) comes)))))
 unfolding channelAt
-in-order-of = reliable-in-order 2 example.first 7 (example.stateOf example.free 0) comes lawful-comes example.joined-one
+in-order-of = reliable-in-order 2 sample.first 7 (sample.stateOf sample.free 0) comes lawful-comes sample.joined-one
 
 -- the second owner's Join is answered with reciprocal channel 9
 abbrev joinCall : Call
@@ -386,17 +386,17 @@ joinCall = calls.message heldSize deliverSize replySize (sample.cid 3 4) (replic
 
 -- it is made in the lowest free record
 pub makes-with : (lent : List ℕ) → length lent ≡ heldSize
-    → messageOutcome (example.tableOf example.free) lent deliverSize replySize (sample.cid 3 4) (replicate 16 0) 4 sample.joinData 9 .given
+    → messageOutcome (sample.tableOf sample.free) lent deliverSize replySize (sample.cid 3 4) (replicate 16 0) 4 sample.joinData 9 .given
     ≡ given.Joined (search.At 0) (decision.Make (parametersAt sample.joinData 31))
 unfolding messageOutcome messageSizes askedOf readMessage readable readableJoin lengthOf look messageOf joinOf addressOf parametersAt joinAsks joinOutcome
     found lowestFree named same cidAt number decided decideNew legal legalBlock legalNames legalParameters minExpiry
-makes-with lent l = rw (l, example.joined-one .right .formed)
+makes-with lent l = rw (l, sample.joined-one .right .formed)
 
-makes-first : Makes (example.stateOf example.free 0) joinCall 0 example.second 7 (joinOf sample.joinData)
+makes-first : Makes (sample.stateOf sample.free 0) joinCall 0 sample.second 7 (joinOf sample.joinData)
 unfolding cidAt joinOf number
 makes-first =
     makes heldSize deliverSize replySize (sample.cid 3 4) (replicate 16 0) 4 sample.joinData 9 0 (parametersAt sample.joinData 31)
-    (makes-with (calls.lentAs heldSize (example.heldOf 0)) (lent-length heldSize (example.heldOf 0)))
+    (makes-with (calls.lentAs heldSize (sample.heldOf 0)) (lent-length heldSize (sample.heldOf 0)))
 
 -- and its first wrapper comes, with number 11
 abbrev first-comes : List Call
@@ -405,13 +405,13 @@ first-comes = sample.wrapperCall (sample.cid 3 4) 11 (4 ∷ 5 ∷ 6 ∷ []) ∷ 
 lawful-first : Each Lawful first-comes
 lawful-first = more (sample.lawful (sample.wrapperData 11 (4 ∷ 5 ∷ 6 ∷ [])) refl) none
 
-own-first : ownOf (own example.second 7) first-comes ≡ first-comes
+own-first : ownOf (own sample.second 7) first-comes ≡ first-comes
 unfolding ownOf own isCid cidAt number same names readable lengthOf look wrapperOf
 own-first = refl
 
 joined-turn : InTurn (total 10) (reliable 10)
-    (deliveredAll (shown (own example.second 7) (viewAt 0) live (run tableStep (tableStep (example.stateOf example.free 0) joinCall .state) first-comes)))
+    (deliveredAll (shown (own sample.second 7) (viewAt 0) live (run tableStep (tableStep (sample.stateOf sample.free 0) joinCall .state) first-comes)))
 unfolding joinOf number
 joined-turn =
-    joined-in-turn 0 example.second 7 (example.stateOf example.free 0) joinCall first-comes (joinOf sample.joinData) (example.joined-one .right)
+    joined-in-turn 0 sample.second 7 (sample.stateOf sample.free 0) joinCall first-comes (joinOf sample.joinData) (sample.joined-one .right)
     (sample.lawful sample.joinData refl) lawful-first makes-first

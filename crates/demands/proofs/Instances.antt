@@ -17,7 +17,6 @@ use Rattle.member.specs.Leaving.{leaveOutcome, leaveEnd}
 use Rattle.demands.specs.Refusals.{firstOf, messageChecks, elapsedChecks, leaveChecks, messageStands, elapsedStands, leaveStands}
 use Rattle.demands.proofs.Refusals.{message-leaves, elapsed-leaves, leave-leaves}
 use Rattle.demands.proofs.Frame.{moved, Still, message-frame}
-use Rattle.demands.proofs.OwnStepsOnly as example
 use Rattle.demands.proofs.Lemmas.Sample as sample
 use Rattle.demands.proofs.InTurn.{makes-with}
 
@@ -58,8 +57,8 @@ not-two : search.At 0 ≢ search.At 2
 not-two e = never (cc)
 
 -- the second owner's Join makes record 0; record 2, with the first owner's channel, stands
-join-leaves-two : Still (example.tableOf example.free) (example.heldOf 0) 2
-    (messageOutcome (example.tableOf example.free) (example.heldOf 0) deliverSize replySize (sample.cid 3 4) (replicate 16 0) 4 sample.joinData 9)
+join-leaves-two : Still (sample.tableOf sample.free) (sample.heldOf 0) 2
+    (messageOutcome (sample.tableOf sample.free) (sample.heldOf 0) deliverSize replySize (sample.cid 3 4) (replicate 16 0) 4 sample.joinData 9)
 join-leaves-two =
-    message-frame (example.stateOf example.free 0) (example.joined-one .right) 2 deliverSize replySize (sample.cid 3 4) (replicate 16 0) 4 sample.joinData 9
-    (subst (λ g. moved g ≢ search.At 2) (sym (makes-with (example.heldOf 0) (example.held-size 0))) not-two)
+    message-frame (sample.stateOf sample.free 0) (sample.joined-one .right) 2 deliverSize replySize (sample.cid 3 4) (replicate 16 0) 4 sample.joinData 9
+    (subst (λ g. moved g ≢ search.At 2) (sym (makes-with (sample.heldOf 0) (sample.held-size 0))) not-two)

@@ -54,15 +54,15 @@ use Rattle.demands.specs.Runs.{Came, run, ownOf, alone, shown, Each, non
 use Rattle.demands.specs.Calls as calls
 use Rattle.demands.specs.Calls.{Call, State, tableStep, Lawful}
 use Rattle.demands.specs.Refusals.{isWrapper}
-use Rattle.demands.specs.Channel.{Channel, Told, names, isCid, own, wrapperOn, one, live, channelAt, viewAt, passed, planned, elapsedOn}
+use Rattle.demands.specs.Channel.{Channel, Told, names, isCid, own, wrapperOn, one, live, channelAt, viewAt, passed, planned, elapsedOn, slab}
 use Rattle.demands.specs.Order.{deliveredIn, deliveredAll}
 use Rattle.demands.proofs.Lemmas.Running.{along}
-use Rattle.demands.proofs.Lemmas.Slabs.{slab, slab-place, slab-after}
+use Rattle.demands.proofs.Lemmas.Slabs.{slab-place, slab-after}
 use Rattle.demands.proofs.Lemmas.OneStep.{refuses, joins, brought, Does, answers, wraps, passes, leaves, does}
 use Rattle.demands.proofs.Lemmas.Owned.{Has, it-has}
 use Rattle.demands.proofs.Lemmas.Agreeing.{elapsed-places}
-use Rattle.demands.proofs.OwnStepsOnly.{Joined, own-law}
-use Rattle.demands.proofs.OwnStepsOnly as example
+use Rattle.demands.specs.TwoRuns.{Joined}
+use Rattle.demands.proofs.OwnStepsOnly.{own-law, own-run}
 use Rattle.demands.proofs.Lemmas.Sample as sample
 
 -- the wrapper that a call brings, as it is delivered
@@ -325,13 +325,13 @@ comes = sample.wrapperCall (sample.cid 1 2) 11 (4 ∷ 5 ∷ 6 ∷ []) ∷ []
 pub lawful-comes : Each Lawful comes
 lawful-comes = more (sample.lawful (sample.wrapperData 11 (4 ∷ 5 ∷ 6 ∷ [])) refl) none
 
-pub own-comes : ownOf (own example.first 7) comes ≡ comes
+pub own-comes : ownOf (own sample.first 7) comes ≡ comes
 unfolding ownOf own isCid cidAt number same names readable lengthOf look wrapperOf
 own-comes = refl
 
 -- 11 is delivered as it came, and 12 as it was held
 delivers : (held : List ℕ)
-    → deliveredAll (alone (one example.first) live (record { at = example.holding example.first; held = held }) comes)
+    → deliveredAll (alone (one sample.first) live (record { at = sample.holding sample.first; held = held }) comes)
     ≡ asSent reliableWrapper (sample.wrapperData 11 (4 ∷ 5 ∷ 6 ∷ []))
     ∷ fromPlace held 0 0 (record { used = true; total = total 12; reliable = reliable 12; len = 3 })
     ∷ []
@@ -339,41 +339,41 @@ unfolding alone deliveredAll one messageSizes wrapperOn wrapperOf number stepped
     taken heard farther placed nextOne released releaseFrom releaseAt nextHeld settled gapped closed acknowledged asked spared planned deliveredBy
 delivers held = refl
 
-pub delivers-both : deliveredAll (shown (own example.first 7) (viewAt 2) live (run tableStep (example.stateOf example.free 0) comes))
+pub delivers-both : deliveredAll (shown (own sample.first 7) (viewAt 2) live (run tableStep (sample.stateOf sample.free 0) comes))
     ≡ asSent reliableWrapper (sample.wrapperData 11 (4 ∷ 5 ∷ 6 ∷ []))
-    ∷ fromPlace (slab 2 (example.heldOf 0)) 0 0 (record { used = true; total = total 12; reliable = reliable 12; len = 3 })
+    ∷ fromPlace (slab 2 (sample.heldOf 0)) 0 0 (record { used = true; total = total 12; reliable = reliable 12; len = 3 })
     ∷ []
 unfolding channelAt
 delivers-both =
-    ap deliveredAll (example.own-run 2 example.first 7 (example.stateOf example.free 0) comes lawful-comes example.joined-one)
-    ∙ ap (λ (cs : List Call). deliveredAll (alone (one example.first) live (channelAt 2 (example.stateOf example.free 0)) cs)) own-comes
-    ∙ delivers (slab 2 (example.heldOf 0))
+    ap deliveredAll (own-run 2 sample.first 7 (sample.stateOf sample.free 0) comes lawful-comes sample.joined-one)
+    ∙ ap (λ (cs : List Call). deliveredAll (alone (one sample.first) live (channelAt 2 (sample.stateOf sample.free 0)) cs)) own-comes
+    ∙ delivers (slab 2 (sample.heldOf 0))
 
-both-known : Each (From (channelAt 2 (example.stateOf example.free 0)) (ownOf (own example.first 7) comes))
-    (deliveredAll (shown (own example.first 7) (viewAt 2) live (run tableStep (example.stateOf example.free 0) comes)))
-both-known = nothing-invented 2 example.first 7 (example.stateOf example.free 0) comes lawful-comes example.joined-one
+both-known : Each (From (channelAt 2 (sample.stateOf sample.free 0)) (ownOf (own sample.first 7) comes))
+    (deliveredAll (shown (own sample.first 7) (viewAt 2) live (run tableStep (sample.stateOf sample.free 0) comes)))
+both-known = nothing-invented 2 sample.first 7 (sample.stateOf sample.free 0) comes lawful-comes sample.joined-one
 
 -- after the 50 milliseconds of its standoff the channel asks for 11 and no more
 abbrev waits : List Call
 waits = calls.elapsed 512 50 ∷ []
 
 asks-for : (held : List ℕ)
-    → map (λ (m : Came Channel Told). m .answer) (alone (one example.first) live (record { at = example.holding example.first; held = held }) waits)
+    → map (λ (m : Came Channel Told). m .answer) (alone (one sample.first) live (record { at = sample.holding sample.first; held = held }) waits)
     ≡ passed (event.Nak (reliable 10) (reliable 11) (reliable 11) false)
-    (eventOf (example.holding example.first .terms) (event.Nak (reliable 10) (reliable 11) (reliable 11) false))
+    (eventOf (sample.holding sample.first .terms) (event.Nak (reliable 10) (reliable 11) (reliable 11) false))
     ∷ []
 unfolding alone one elapsedOn elapsedOf phased inStandoff nakFirst nakLast nearest nearer
 asks-for held = refl
 
-asks-missing : map (λ (m : Came Channel Told). m .answer) (shown (own example.first 7) (viewAt 2) live (run tableStep (example.stateOf example.free 0) waits))
+asks-missing : map (λ (m : Came Channel Told). m .answer) (shown (own sample.first 7) (viewAt 2) live (run tableStep (sample.stateOf sample.free 0) waits))
     ≡ passed (event.Nak (reliable 10) (reliable 11) (reliable 11) false)
-    (eventOf (example.holding example.first .terms) (event.Nak (reliable 10) (reliable 11) (reliable 11) false))
+    (eventOf (sample.holding sample.first .terms) (event.Nak (reliable 10) (reliable 11) (reliable 11) false))
     ∷ []
 unfolding ownOf own elapsedSizes channelAt
 asks-missing =
     ap (map (λ (m : Came Channel Told). m .answer))
-    (example.own-run 2 example.first 7 (example.stateOf example.free 0) waits (more tt none) example.joined-one)
-    ∙ asks-for (slab 2 (example.heldOf 0))
+    (own-run 2 sample.first 7 (sample.stateOf sample.free 0) waits (more tt none) sample.joined-one)
+    ∙ asks-for (slab 2 (sample.heldOf 0))
 
-asks-right : Each NakRight (shown (own example.first 7) (viewAt 2) live (run tableStep (example.stateOf example.free 0) waits))
-asks-right = only-missing 2 example.first 7 (example.stateOf example.free 0) waits (more tt none) example.joined-one
+asks-right : Each NakRight (shown (own sample.first 7) (viewAt 2) live (run tableStep (sample.stateOf sample.free 0) waits))
+asks-right = only-missing 2 sample.first 7 (sample.stateOf sample.free 0) waits (more tt none) sample.joined-one

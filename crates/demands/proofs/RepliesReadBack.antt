@@ -74,7 +74,6 @@ use Rattle.demands.proofs.Lemmas.Back.{short, message-back}
 use Rattle.demands.proofs.Lemmas.Sounds.{either, Both, taken-sound}
 use Rattle.demands.proofs.Lemmas.Brought.{number-short}
 use Rattle.demands.proofs.Lemmas.Kept.{terms-kept}
-use Rattle.demands.proofs.OwnStepsOnly as example
 use Rattle.demands.proofs.Lemmas.Sample as sample
 
 -- ---- what is read from octets
@@ -379,17 +378,17 @@ existing-fits r s f = (s .reliable, f .reciprocal)
 
 -- ---- an example: channel 7 of the first owner asks for 11, and the second owner's Join to channel 7 is answered
 
-pub terms-fit : FitTerms (example.holding example.first .terms)
+pub terms-fit : FitTerms (sample.holding sample.first .terms)
 terms-fit = record { owner = record { high = lit< tt; low = lit< tt }; channel = lit< tt; mid = lit< tt; reciprocal = lit< tt }
 
-nak-back : ReadFrom (eventOf (elapsedOf (example.holding example.first) 50 .after .terms) (elapsedOf (example.holding example.first) 50 .event)) 0
-    (missing (example.holding example.first .terms) (reliable 10) (reliable 11) (reliable 11) ∷ [])
+nak-back : ReadFrom (eventOf (elapsedOf (sample.holding sample.first) 50 .after .terms) (elapsedOf (sample.holding sample.first) 50 .event)) 0
+    (missing (sample.holding sample.first .terms) (reliable 10) (reliable 11) (reliable 11) ∷ [])
 unfolding elapsedOf phased inStandoff nakFirst nakLast nearest nearer
-nak-back = elapsed-read (example.holding example.first) 50 (example.sound-holding example.first) terms-fit
+nak-back = elapsed-read (sample.holding sample.first) 50 (sample.sound-holding sample.first) terms-fit
 
-welcome-back : ReadFrom (joinReplyOf example.second (joinOf sample.joinData) 9 (decided (joinOf sample.joinData) existing.Unknown 9 true)) 0
-    (acceptance example.second (joinOf sample.joinData) (reliable 10) 9 ∷ message.Ack (reliable 10) ∷ [])
+welcome-back : ReadFrom (joinReplyOf sample.second (joinOf sample.joinData) 9 (decided (joinOf sample.joinData) existing.Unknown 9 true)) 0
+    (acceptance sample.second (joinOf sample.joinData) (reliable 10) 9 ∷ message.Ack (reliable 10) ∷ [])
 unfolding decided decideNew legal legalBlock legalNames legalParameters minExpiry cidAt joinOf addressOfJoin parametersAt number
 welcome-back =
-    decided-read example.second (joinOf sample.joinData) existing.Unknown 9 true
+    decided-read sample.second (joinOf sample.joinData) existing.Unknown 9 true
     (join-fits (sample.cid 3 4) sample.joinData (sample.lawful (sample.cid 3 4) refl) (sample.lawful sample.joinData refl)) (lit< tt) tt

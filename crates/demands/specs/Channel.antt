@@ -141,8 +141,12 @@ live h = h .at .used
 abbrev pub placesSize : ℕ
 placesSize = 4 * mostContents
 
+-- the octets of record i's four places, within all held octets
+abbrev pub slab : ℕ → List ℕ → List ℕ
+slab i held = part held (placeAt i 0) placesSize
+
 unfoldable pub channelAt : ℕ → State → Channel
-channelAt i s = record { at = recordAt (s .table) i; held = part (s .held) (placeAt i 0) placesSize }
+channelAt i s = record { at = recordAt (s .table) i; held = slab i (s .held) }
 
 abbrev pub toldGiven : Given → List Delivered → List ℕ → Told
 toldGiven (given.Refused number) delivered reply = refused number

@@ -1,11 +1,12 @@
 -- A channel looks at its held octets only in its used places: with one record and octets that agree there, each of its own calls leads to one
--- record, answers the same and leaves octets that agree again (`one-tells`). Assumes of the record that it is used, well formed and has four places.
+-- record, answers the same and leaves the same contents held (`one-tells`). Assumes of the record that it is used, well formed and has four places.
 use Prim.Native.Nat.{ℕ, _<_, _≤_}
-use mathlib.Core.Bool.{Bool, true, false, cond}
-use mathlib.Core.List.{List}
+use mathlib.Core.Bool.{Bool, true, false, false≢true, cond}
+use mathlib.Core.List.{List, []}
+use mathlib.Core.Logic.{_⊎_, inl, inr}
 use mathlib.Core.Path.{_≡_, refl, sym, ap, subst, _∙_}
 use native.Mathlib.Omega.{arith}
-use lib.Dec.{ltb, eqb}
+use lib.Dec.{ltb, eqb, lit<}
 use lib.ListN.{length, getD}
 use borrow.Author.Tests.{ltb-false, eqb-true}
 use Rattle.octets.specs.Octets.{part}
@@ -18,18 +19,22 @@ use Rattle.record.specs.WellFormed.{mostContents, wellFormed}
 use Rattle.record.specs.With.{freed}
 use Rattle.record.specs.declared.Place.{Place}
 use Rattle.record.specs.declared.Record.{Record}
+use Rattle.record.proofs.Formed.{formed}
 use Rattle.gap.specs.Elapsed.{elapsedOf}
 use Rattle.gap.specs.declared.Elapsed.{Elapsed}
 use Rattle.gap.proofs.Moves.{Move, stands, expires, lost, goes-on, moves}
+use Rattle.wrapper.specs.Judge.{heard}
+use Rattle.wrapper.specs.Hold.{placed}
 use Rattle.wrapper.specs.Release.{noPlace}
 use Rattle.wrapper.specs.Taken.{taken, stepped}
 use Rattle.wrapper.specs.declared.Arrived.{Arrived}
 use Rattle.wrapper.specs.declared.Plan.{Plan}
+use Rattle.wrapper.proofs.ReleaseIsDone.{Freed}
 use Rattle.table.specs.Table.{same}
 use Rattle.sending.specs.Sent.{replyOf}
 use Rattle.carry.specs.Carried.{Delivered, placeAt, heldAfter}
 use Rattle.carry.specs.Fits.{Fits}
-use Rattle.carry.proofs.PlanFits.{plan-fits, stepped-taken}
+use Rattle.carry.proofs.PlanFits.{Kept, Taking, taking, plan-fits, stepped-taken}
 use Rattle.carry.proofs.HeldAgree.{AgreeAt, Agree, held-agree, agree-after}
 use Rattle.asking.specs.Asking.{arrivedOf}
 use Rattle.member.specs.Sizes.{messageSizes, leaveSizes, tableSize}
@@ -37,18 +42,30 @@ use Rattle.demands.specs.Runs.{Came}
 use Rattle.demands.specs.Calls as calls
 use Rattle.demands.specs.Calls.{Call}
 use Rattle.demands.specs.Refusals.{isWrapper}
-use Rattle.demands.specs.Channel.{Channel, Told, wrapped, stays, planned, wrapperOn, joinOn, elapsedOn, leaveOn, one}
-use Rattle.demands.proofs.Lemmas.Slabs.{slab, slab-place, slab-after, slab-delivered}
+use Rattle.demands.specs.Channel.{Channel, Told, wrapped, stays, planned, wrapperOn, joinOn, elapsedOn, leaveOn, one, slab}
+use Rattle.demands.specs.TwoRuns.{contentsAt, heldContents}
+use Rattle.demands.proofs.Lemmas.Slabs.{slab-place, slab-after, slab-delivered}
 
--- octets of slabs that agree in the used places of a record
-abbrev pub AgreeIn : List Place → List ℕ → List ℕ → Type 0
-AgreeIn ps h g = (j : ℕ) → j < 4 → getD ps j noPlace .used ≡ true → getD ps j noPlace .len ≤ mostContents → AgreeAt 0 ps h g j
-
--- one record, one answer, and octets that agree
+-- one record, one answer, and the same contents held
 pub record Tells (m n : Came Channel Told) : Type 0 where
   pub at : m .state .at ≡ n .state .at
   pub told : m .answer ≡ n .answer
-  pub held : AgreeIn (m .state .at .places) (m .state .held) (n .state .held)
+  pub contents : heldContents (m .state) ≡ heldContents (n .state)
+
+-- octets that agree in the used places of a record are the same contents
+same-contents : (q : Record) (x y : List ℕ) → ((j : ℕ) → j < 4 → getD (q .places) j noPlace .used ≡ true → AgreeAt 0 (q .places) x y j)
+    → heldContents (record { at = q; held = x }) ≡ heldContents (record { at = q; held = y })
+unfolding heldContents
+same-contents q x y agree = rw (at 0 (lit< tt), at 1 (lit< tt), at 2 (lit< tt), at 3 (lit< tt))
+  where
+    at : (j : ℕ) → j < 4 → contentsAt (record { at = q; held = x }) j ≡ contentsAt (record { at = q; held = y }) j
+    at j l = by (getD (q .places) j noPlace .used) refl
+      where
+        by : (b : Bool) → getD (q .places) j noPlace .used ≡ b
+            → cond b (part x (placeAt 0 j) (getD (q .places) j noPlace .len)) []
+            ≡ cond b (part y (placeAt 0 j) (getD (q .places) j noPlace .len)) []
+        by true u = agree j l u
+        by false u = refl
 
 -- both sides of a choice tell the same
 either : (b : Bool) (m n k l : Came Channel Told) → (b ≡ true → Tells m k) → (b ≡ false → Tells n l) → Tells (cond b m n) (cond b k l)
@@ -81,14 +98,26 @@ module _
     abbrev with : List ℕ → Channel
     with s = record { at = r; held = slab i s }
 
-    slabs-agree : AgreeIn (r .places) (slab i h) (slab i g)
-    slabs-agree j l u n = slab-place i j _ h l n ∙ agree j u ∙ sym (slab-place i j _ g l n)
+    -- contents that are held fit their place
+    small : (j : ℕ) → getD (r .places) j noPlace .used ≡ true → getD (r .places) j noPlace .len ≤ mostContents
+    small j u = formed r well used .held j u .contents
+
+    slabs-agree : (j : ℕ) → j < 4 → getD (r .places) j noPlace .used ≡ true → AgreeAt 0 (r .places) (slab i h) (slab i g) j
+    slabs-agree j l u = slab-place i j _ h l (small j u) ∙ agree j u ∙ sym (slab-place i j _ g l (small j u))
 
     -- a record with the same places over octets that stand
     moved : (q : Record) → q .places ≡ r .places → (t : Told)
         → Tells (stays (record { at = q; held = slab i h }) t) (stays (record { at = q; held = slab i g }) t)
     moved q e t =
-        record { at = refl; told = refl; held = subst (λ (ps : List Place). AgreeIn ps (slab i h) (slab i g)) (sym e) slabs-agree }
+        record {
+          at = refl;
+          told = refl;
+          contents =
+              same-contents q (slab i h) (slab i g)
+              (subst
+              (λ (ps : List Place). (j : ℕ) → j < 4 → getD ps j noPlace .used ≡ true → AgreeAt 0 ps (slab i h) (slab i g) j)
+              (sym e) slabs-agree);
+        }
 
     stood : (t : Told) → Tells (stays (with h) t) (stays (with g) t)
     stood t = moved r refl t
@@ -99,9 +128,33 @@ module _
       fits : Fits (taken r w)
       fits = plan-fits r w used well four (omega arith)
 
-      after-agree : AgreeIn (taken r w .after .places) (heldAfter 0 (taken r w .fate) c (slab i h)) (heldAfter 0 (taken r w .fate) c (slab i g))
-      after-agree j l u n =
+      -- what the step holds fits its place too
+      after-small : (j : ℕ) → getD (taken r w .after .places) j noPlace .used ≡ true → getD (taken r w .after .places) j noPlace .len ≤ mostContents
+      after-small j u = by (t .each j)
+        where
+          between : List Place
+          between = placed (heard r (w .reliable)) w .after .places
+
+          t : Taking r w between (taken r w)
+          t = taking r w four
+
+          held : getD between j noPlace .used ≡ true → Kept r w (taken r w .fate) between j → getD between j noPlace .len ≤ mostContents
+          held v (inl a) = subst (λ (p : Place). p .len ≤ mostContents) (sym (a .1)) (omega arith)
+          held v (inr a) =
+              subst (λ (p : Place). p .len ≤ mostContents) (sym (a .1)) (small j (subst (λ (p : Place). p .used ≡ true) (a .1) v))
+
+          by : (getD (taken r w .after .places) j noPlace ≡ getD between j noPlace) ⊎ Freed (getD between j noPlace) (getD (taken r w .after .places) j noPlace)
+              → getD (taken r w .after .places) j noPlace .len ≤ mostContents
+          by (inl q) =
+              let v = subst (λ (p : Place). p .used ≡ true) q u in
+              subst (λ (p : Place). p .len ≤ mostContents) (sym q) (held v (t .kept j v))
+          by (inr f) = absurd (false≢true (sym (ap (λ (p : Place). p .used) (f .1)) ∙ u))
+
+      after-agree : (j : ℕ) → j < 4 → getD (taken r w .after .places) j noPlace .used ≡ true
+          → AgreeAt 0 (taken r w .after .places) (heldAfter 0 (taken r w .fate) c (slab i h)) (heldAfter 0 (taken r w .fate) c (slab i g)) j
+      after-agree j l u =
           let octets : List ℕ → List ℕ = λ s. part s (placeAt 0 j) (getD (taken r w .after .places) j noPlace .len) in
+          let n = after-small j u in
           ap octets (sym (slab-after i (taken r w .fate) c h hi (fits .place) most room-h))
           ∙ slab-place i j _ (heldAfter i (taken r w .fate) c h) l n
           ∙ agree-after r w used well four c said most i hi h g room-h room-g agree j u
@@ -118,7 +171,7 @@ module _
                 (sym (slab-delivered h i w c (taken r w) fits hi most room-h)
                 ∙ held-agree r w used well four c said most i hi h g room-h room-g agree
                 ∙ slab-delivered g i w c (taken r w) fits hi most room-g);
-            held = after-agree;
+            contents = same-contents (taken r w .after) _ _ after-agree;
           }
 
       plan-tells : stepped r w .number ≡ 0 → Tells (planned (with h) w c (stepped r w .plan)) (planned (with g) w c (stepped r w .plan))

@@ -44,8 +44,8 @@ use Rattle.demands.specs.Runs.{Came}
 use Rattle.demands.specs.Calls as calls
 use Rattle.demands.specs.Calls.{State, Answer, lentAs, messageCame, tableStep, Right}
 use Rattle.demands.specs.Refusals.{isWrapper}
-use Rattle.demands.specs.Channel.{Channel, Told, refused, wrapped, joined, stays, planned, byStep, wrapperOn, joinOn, one, names, isCid, own, channelAt, viewAt}
-use Rattle.demands.proofs.Lemmas.Slabs.{slab, slab-after, slab-other, slab-delivered}
+use Rattle.demands.specs.Channel.{Channel, Told, refused, wrapped, joined, stays, planned, byStep, wrapperOn, joinOn, one, names, isCid, own, channelAt, viewAt, slab}
+use Rattle.demands.proofs.Lemmas.Slabs.{slab-after, slab-other, slab-delivered}
 use Rattle.demands.proofs.Lemmas.Asks.{Asks, refuses, joins, wraps, asks, asks-wrapper, asks-join}
 use Rattle.demands.proofs.Lemmas.Owned.{sender-is, is-sender, Names, names-is, wrapper-names, message-sizes, Has, it-has, meets}
 

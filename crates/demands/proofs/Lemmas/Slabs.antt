@@ -23,10 +23,7 @@ use Rattle.carry.specs.Carried.{Delivered, placeAt, heldAfter, atOnce, fromPlac
 use Rattle.carry.specs.Fits.{Fits}
 use Rattle.carry.proofs.DeliveredLength.{of-first}
 use Rattle.carry.proofs.OwnPlaces.{held-beside}
-use Rattle.demands.specs.Channel.{placesSize}
-
-abbrev pub slab : ℕ → List ℕ → List ℕ
-slab i held = part held (placeAt i 0) placesSize
+use Rattle.demands.specs.Channel.{placesSize, slab}
 
 -- ---- parts of parts, and writes into parts
 
