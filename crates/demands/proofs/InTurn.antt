@@ -65,7 +65,7 @@ use Rattle.demands.specs.Runs.{Came, run, ownOf, shown, Each, none, more
 use Rattle.demands.specs.Calls as calls
 use Rattle.demands.specs.Calls.{Call, State, tableStep, Sound, Lawful, Right}
 use Rattle.demands.specs.Channel.{Channel, Told, own, one, live, channelAt, viewAt, planned, elapsedOn, names, isCid}
-use Rattle.demands.specs.Order.{deliveredIn, deliveredAll, InTurn, reliableNumbers, following}
+use Rattle.demands.specs.Order.{deliveredIn, deliveredAll, InTurn, reliableNumbers, following, BroughtBy, here, later, From, received, kept, Makes, makes}
 use Rattle.demands.proofs.Lemmas.Running.{own-each, along}
 use Rattle.demands.proofs.Lemmas.OneStep.{refuses, joins, brought, Does, answers, wraps, passes, leaves, does}
 use Rattle.demands.proofs.Lemmas.Asks as asks
@@ -77,7 +77,7 @@ use Rattle.demands.proofs.TableStays.{table-stays}
 use Rattle.demands.specs.TwoRuns.{Joined}
 use Rattle.demands.proofs.OwnStepsOnly.{own-law}
 use Rattle.demands.proofs.Lemmas.Sample as sample
-use Rattle.demands.proofs.NothingInvented.{BroughtBy, here, later, From, received, kept, each-to, nothing-invented, comes, lawful-comes, delivers-both}
+use Rattle.demands.proofs.NothingInvented.{each-to, nothing-invented, comes, lawful-comes, delivers-both}
 
 -- ---- one step
 
@@ -156,12 +156,6 @@ has-place {i} {owner} {channel} {s} j =
     let within = found-at owner channel (s .table) i (tables.found-formed formed owner channel i (j .has)) .0 in
     rw (j .right .eight) at within
 
--- the call c is a Join j of this owner for this channel, and it makes record i
-pub data Makes (s : State) : Call → ℕ → Cid → ℕ → Join → Type 0 where
-  makes : (held deliver reply : ℕ) (sender ours : List ℕ) (v : ℕ) (d : List ℕ) (n i : ℕ) (p : Parameters)
-      → messageOutcome (s .table) (calls.lentAs held (s .held)) deliver reply sender ours v d n .given ≡ given.Joined (search.At i) (decision.Make p)
-      → Makes s (calls.message held deliver reply sender ours v d n) i (cidAt sender 0) (joinOf d .channel) (joinOf d)
-
 nothing : (h : Channel) → InTurn (h .at .total) (h .at .reliable) []
 unfolding InTurn
 nothing h = tt
@@ -213,13 +207,13 @@ in-order t n (x ∷ xs) hn (more hx small) turns =
     by false q rest = rest ∙ ap (λ (k : ℕ). following k (length (reliableNumbers xs))) (sym (distance-zero (n .0) m hn hx .0 q))
 
 -- the numbers of what is delivered were read from four octets, or stood in the record
-brought-small : {x : Delivered} (cs : List Call) → Each Lawful cs → BroughtBy x cs → Small x
-brought-small (calls.message held deliver reply sender ours v d n ∷ cs) (more o each) (here w e) = rw e (wrapper-says v d o .1)
+brought-small : {x : Delivered} (cs : List Call) {ms : List (Came Channel Told)} → Each Lawful cs → BroughtBy x cs ms → Small x
+brought-small (calls.message held deliver reply sender ours v d n ∷ cs) (more o each) (here w e t) = rw e (wrapper-says v d o .1)
 brought-small (c ∷ cs) (more o each) (later b) = brought-small cs each b
 
-known-small : (h : Channel) (cs : List Call) → Sound (h .at) → Each Lawful cs → (x : Delivered) → From h cs x → Small x
-known-small h cs sound each x (received b) = brought-small cs each b
-known-small h cs sound each x (kept j u e) = rw e (sound .held j)
+known-small : (h : Channel) (cs : List Call) (ms : List (Came Channel Told)) → Sound (h .at) → Each Lawful cs → (x : Delivered) → From h cs ms x → Small x
+known-small h cs ms sound each x (received b) = brought-small cs each b
+known-small h cs ms sound each x (kept j u e) = rw e (sound .held j)
 
 -- the reliable numbers delivered are those that follow R, each once and in order
 pub reliable-in-order : (i : ℕ) (owner : Cid) (channel : ℕ) (s : State) (cs : List Call) → Each Lawful cs → Joined i owner channel s
@@ -230,7 +224,7 @@ reliable-in-order i owner channel s cs each joined =
     let sound = joined .right .sound i (has-place joined) in
     in-order (recordAt (s .table) i .total) (recordAt (s .table) i .reliable) _ (sound .reliable)
     (each-to _
-    (known-small (channelAt i s) (ownOf (own owner channel) cs) sound
+    (known-small (channelAt i s) (ownOf (own owner channel) cs) _ sound
     (each-to (ownOf (own owner channel) cs) (λ c w. w .0) (own-each (own owner channel) cs each)))
     (nothing-invented i owner channel s cs each joined))
     (run-in-turn i owner channel s cs each joined)

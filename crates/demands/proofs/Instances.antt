@@ -16,7 +16,8 @@ use Rattle.member.specs.Elapsing.{elapsedOutcome, elapsedEnd}
 use Rattle.member.specs.Leaving.{leaveOutcome, leaveEnd}
 use Rattle.demands.specs.Refusals.{firstOf, messageChecks, elapsedChecks, leaveChecks, messageStands, elapsedStands, leaveStands}
 use Rattle.demands.proofs.Refusals.{message-leaves, elapsed-leaves, leave-leaves}
-use Rattle.demands.proofs.Frame.{moved, Still, message-frame}
+use Rattle.demands.specs.Frame.{moved, Still}
+use Rattle.demands.proofs.Frame.{message-frame}
 use Rattle.demands.proofs.Lemmas.Sample as sample
 use Rattle.demands.proofs.InTurn.{makes-with}
 

@@ -221,7 +221,7 @@ module _ (i : ℕ) (owner : Cid) (channel : ℕ) where
 -- the reciprocal number plays no part in an own call that is no Join
 one-counted : (owner : Cid) (channel : ℕ) (h : Channel) (c : Call) → own owner channel c ≡ true → one owner h (counted c) ≡ one owner h c
 unfolding one own
-one-counted owner channel h (calls.message held deliver reply sender ours v d n) e = 
+one-counted owner channel h (calls.message held deliver reply sender ours v d n) e =
     by (names-is channel v d (and-eq-true-iff (isCid owner sender) (names channel v d) .0 e .1) .1)
   where
     by : ((isWrapper v ≡ true) × (wrapperOf d .channel ≡ channel)) ⊎ ((eqb v join ≡ true) × (joinOf d .channel ≡ channel))

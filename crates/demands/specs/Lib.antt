@@ -4,5 +4,6 @@ pub mod Refusals
 pub mod Blocks
 pub mod Channel
 pub mod TwoRuns
+pub mod Frame
 pub mod Order
 pub mod Examples
