@@ -4,7 +4,7 @@
 -- widths of their fields (`Wide`), a CID and data are octets, and a reciprocal channel number has two octets. The example at the end meets that.
 use Prim.Native.Nat.{ℕ, _<_}
 use mathlib.Core.Bool.{Bool, true, false, cond, not}
-use mathlib.Core.List.{List, [], _∷_}
+use mathlib.Core.List.{List, []}
 use mathlib.Core.Path.{_≡_, refl, sym, subst}
 use lib.Dec.{ltb, eqb, lit<}
 use lib.ListN.{length, replicate, List·getD-map}
@@ -15,7 +15,6 @@ use Rattle.message.specs.Layouts.{cidAt, wrapperOf, joinOf}
 use Rattle.message.specs.Reading.{contents}
 use Rattle.message.specs.declared.Cid.{Cid}
 use Rattle.message.specs.declared.Join.{Join}
-use Rattle.message.specs.declared.Message.{Message}
 use Rattle.message.specs.declared.Wrapper.{Wrapper}
 use Rattle.record.specs.Reasons.{leavingReason}
 use Rattle.record.specs.WellFormed.{mostContents}
@@ -26,7 +25,6 @@ use Rattle.gap.specs.declared.Event.the-variants as event
 use Rattle.wrapper.specs.Taken.{stepped}
 use Rattle.wrapper.specs.declared.Arrived.{Arrived}
 use Rattle.wrapper.specs.declared.Plan.{Plan}
-use Rattle.joining.specs.Replies.{departure}
 use Rattle.table.specs.Table.{same, found, lowestFree, tableFormed, blank, recordAt}
 use Rattle.table.specs.declared.Found.{Found}
 use Rattle.table.specs.declared.Found.the-variants as search
@@ -41,28 +39,18 @@ use Rattle.member.specs.Sizes.{deliverSize, replySize, messageSizes, elapsedSiz
 use Rattle.member.specs.Messages.{Outcome, refusedMessage, existingAt, isFound, joinOutcome, planOutcome, wrapperOutcome, askedOutcome, messageOutcome}
 use Rattle.member.specs.Elapsing.{longest, Passing, refusedElapsed, passing, elapsedOutcome, sentBy}
 use Rattle.member.specs.Leaving.{Departing, refusedLeave, departing, leaveFor, leaveOutcome}
-use Rattle.member.specs.declared.Given.{Given}
 use Rattle.member.specs.declared.Given.the-variants as given
 use Rattle.demands.specs.Calls.{Sound}
 use Rattle.demands.specs.Channel.{entryAt}
+use Rattle.demands.specs.ReadBack.{ReadFrom, replyMeans, eventMeans, givenMeans, leaveMeans, FitTerms, FitAsked, FitExisting, Wide}
 use Rattle.demands.proofs.Lemmas.Asks as asks
 use Rattle.demands.proofs.Lemmas.Asks.{Asks}
 use Rattle.demands.proofs.Lemmas.Sounds.{either, Both}
 use Rattle.demands.proofs.Lemmas.Brought.{wrapper-says}
 use Rattle.demands.proofs.Lemmas.Sample as sample
-use Rattle.demands.proofs.RepliesReadBack.{ReadFrom, none-read, replyMeans, eventMeans, joinMeans, FitTerms, FitAsked, FitExisting, step-reply-read, elapsed-read, leave-read, decided-read, join-fits, existing-fits, terms-fit}
-
--- the records of a table have numbers of the widths of their fields
-abbrev pub Wide : List Record → Type 0
-Wide ts = (k : ℕ) → k < length ts → Sound (recordAt ts k) × FitTerms (recordAt ts k .terms)
+use Rattle.demands.proofs.RepliesReadBack.{none-read, step-reply-read, elapsed-read, leave-read, decided-read, join-fits, existing-fits, terms-fit}
 
 -- ---- message calls
-
--- what the answer to a message says is sent: o is the sender, j the Join that its data are if it is one, n the caller's reciprocal number
-abbrev pub givenMeans : List Record → Cid → Join → ℕ → Given → List Message
-givenMeans ts o j n (given.Refused number) = []
-givenMeans ts o j n (given.Joined at answer) = joinMeans o j n answer
-givenMeans ts o j n (given.Wrapped at fate thrown sent) = replyMeans (recordAt ts at .terms) sent
 
 abbrev Reads : List Record → Cid → Join → ℕ → Outcome → Type 0
 Reads ts o j n out = ReadFrom (out .reply) 0 (givenMeans ts o j n (out .given))
@@ -152,11 +140,6 @@ elapsed-sends ts cells ms i wide l =
         (elapsed-read (recordAt ts i) ms (wide i l .0) (wide i l .1))
 
 -- ---- leave calls
-
--- a Leaving of the record that was left, with its R and the caller's reason
-abbrev pub leaveMeans : List Record → ℕ → Departing → List Message
-leaveMeans ts reason p =
-    cond (eqb (p .number) 0) (departure (recordAt ts (p .at) .terms) (recordAt ts (p .at) .reliable) reason ∷ []) []
 
 pub leave-replies : (ts : List Record) (reply : ℕ) (owner : List ℕ) (channel reason : ℕ) → Wide ts
     → ReadFrom (leaveOutcome ts reply owner channel reason .reply) 0 (leaveMeans ts reason (leaveOutcome ts reply owner channel reason))

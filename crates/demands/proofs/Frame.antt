@@ -25,9 +25,7 @@ use Rattle.member.specs.Sizes.{leaveSizes}
 use Rattle.member.specs.Elapsing.{passing, passed}
 use Rattle.member.specs.Leaving.{refusedLeave, departing, leaveFor, leaveOutcome}
 use Rattle.member.specs.Messages.{Outcome, refusedMessage, joinDone, planOutcome, messageOutcome}
-use Rattle.member.specs.declared.Given.{Given}
 use Rattle.member.specs.declared.Given.the-variants as given
-use Rattle.demands.specs.Channel.{slab}
 use Rattle.demands.specs.Calls.{State, Right}
 use Rattle.demands.specs.Frame.{moved, Still}
 use Rattle.demands.proofs.Lemmas.Slabs.{slab-other}

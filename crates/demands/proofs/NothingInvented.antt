@@ -53,7 +53,6 @@ use Rattle.member.specs.Sizes.{messageSizes, elapsedSizes}
 use Rattle.demands.specs.Runs.{Came, run, ownOf, alone, shown, Each, none, more}
 use Rattle.demands.specs.Calls as calls
 use Rattle.demands.specs.Calls.{Call, State, tableStep, Lawful}
-use Rattle.demands.specs.Refusals.{isWrapper}
 use Rattle.demands.specs.Channel.{Channel, Told, names, isCid, own, wrapperOn, one, live, channelAt, viewAt, passed, planned, elapsedOn, slab}
 use Rattle.demands.specs.Order.{deliveredIn, deliveredAll, asSent, BroughtBy, here, later, From, received, kept, NakRight}
 use Rattle.demands.proofs.Lemmas.Running.{along}

@@ -4,7 +4,7 @@
 -- elapsed time, a leave call and the answer to a Join send no others if the record's counters have 32 bits (`Sound`) and its names, or the Join's, have
 -- the widths of their fields; so for these it is said without that (`step-reply-read`, `elapsed-read`, `leave-read`, `decided-read`). The example at
 -- the end meets all that is assumed.
-use Prim.Native.Nat.{ℕ, suc, _<_, _≤_}
+use Prim.Native.Nat.{ℕ, _<_, _≤_}
 use mathlib.Core.Bool.{Bool, true, false, false≢true, not, _&&_}
 use mathlib.Core.List.{List, [], _∷_, _++_, append-nil}
 use mathlib.Core.Path.{_≡_, refl, sym, ap, ap₂, subst, _∙_}
@@ -13,15 +13,13 @@ use lib.Dec.{ltb, eqb, lit<, lit≤}
 use lib.ListN.{length, getD, length-append}
 use lib.Seq.{take-nil}
 use borrow.Author.Tests.{ltb-true, ltb-false, ne-eqb}
-use Rattle.octets.specs.Octets.{number, octets, part}
+use Rattle.octets.specs.Octets.{number, octets}
 use Rattle.octets.proofs.Numbers.{Octets as Bytes}
 use Rattle.counter.specs.Distance.{turn}
 use Rattle.counter.specs.declared.Reliable.{Reliable}
 use Rattle.counter.proofs.Distances.{next-below, before-below}
-use Rattle.block.specs.Block.{most, readBlock}
+use Rattle.block.specs.Block.{most}
 use Rattle.block.specs.Written.{Piece, together}
-use Rattle.block.specs.declared.Found.{Found}
-use Rattle.block.specs.declared.BlockRead.the-variants as block
 use Rattle.block.proofs.Together.{Short, AllShort, in-order, no-more}
 use Rattle.message.specs.Layouts.{reliable, cidAt, parametersAt, addressOf as addressOfJoin, joinOf}
 use Rattle.message.specs.Reading.{readMessage}
@@ -31,7 +29,6 @@ use Rattle.message.specs.declared.Cid.{Cid}
 use Rattle.message.specs.declared.Join.{Join}
 use Rattle.message.specs.declared.Message.{Message}
 use Rattle.message.specs.declared.Message.the-variants as message
-use Rattle.message.specs.declared.MessageRead.the-variants.{Read}
 use Rattle.message.specs.declared.Parameters.{Parameters}
 use Rattle.record.specs.Legal.{legalNames, legalParameters}
 use Rattle.record.specs.Profile.{minExpiry}
@@ -66,10 +63,11 @@ use Rattle.joining.specs.declared.Decision.the-variants as decision
 use Rattle.joining.specs.declared.Existing.{Existing}
 use Rattle.joining.specs.declared.Existing.the-variants as existing
 use Rattle.writing.specs.Fields.{fieldsOf}
-use Rattle.writing.specs.Fits.{Octets, FitCid, FitMembership, Fits}
+use Rattle.writing.specs.Fits.{Octets, FitMembership, Fits}
 use Rattle.writing.specs.Writing.{vectorOf, addressOf, hasForm, contentsOf, pduOf}
 use Rattle.sending.specs.Sent.{sentOf, replyOf, eventOf, welcomeOf, joinReplyOf}
 use Rattle.demands.specs.Calls.{Sound}
+use Rattle.demands.specs.ReadBack.{ReadAt, ReadFrom, replyMeans, eventMeans, joinMeans, FitTerms, FitReply, FitEvent, FitDecision, FitAsked, FitExisting}
 use Rattle.demands.proofs.Lemmas.Back.{short, message-back}
 use Rattle.demands.proofs.Lemmas.Sounds.{either, Both, taken-sound}
 use Rattle.demands.proofs.Lemmas.Brought.{number-short}
@@ -77,17 +75,6 @@ use Rattle.demands.proofs.Lemmas.Kept.{terms-kept}
 use Rattle.demands.proofs.Lemmas.Sample as sample
 
 -- ---- what is read from octets
-
--- the message at position k of the block s is m
-pub record ReadAt (s : List ℕ) (k : ℕ) (m : Message) : Type 0 where
-  pub found : Found
-  pub there : readBlock s k ≡ block.Message found
-  pub message : readMessage (getD s (found .vector) 0) (part s (found .place) (found .len)) ≡ Read m
-
--- from position k on the block s has these messages and no others
-abbrev pub ReadFrom : List ℕ → ℕ → List Message → Type 0
-ReadFrom s k [] = readBlock s k ≡ block.Fewer
-ReadFrom s k (m ∷ ms) = ReadAt s k m × ReadFrom s (suc k) ms
 
 -- ---- messages written one behind the other
 
@@ -140,51 +127,7 @@ two-read m n fits form fits-n form-n =
 
 -- ---- what a reply, an event and the answer to a Join mean
 
-abbrev pub replyMeans : Terms → Reply → List Message
-replyMeans t reply.Nothing = []
-replyMeans t (reply.Ack r) = message.Ack r ∷ []
-replyMeans t (reply.Leaving reason r) = departure t r reason ∷ []
-
-abbrev pub eventMeans : Terms → Event → List Message
-eventMeans t event.Nothing = []
-eventMeans t (event.Nak r first last outbound) = missing t r first last ∷ []
-eventMeans t (event.Leaving reason r) = departure t r reason ∷ []
-
-abbrev pub joinMeans : Cid → Join → ℕ → Decision → List Message
-joinMeans owner j n (decision.Refuse reason) = refusal owner j reason ∷ []
-joinMeans owner j n (decision.Again r reciprocal) = acceptance owner j r reciprocal ∷ []
-joinMeans owner j n (decision.Make p) = acceptance owner j (j .reliable) n ∷ message.Ack (j .reliable) ∷ []
-
 -- ---- numbers of the width of their fields
-
--- the names and the reciprocal channel of a member
-pub record FitTerms (t : Terms) : Type 0 where
-  pub owner : FitCid (t .owner)
-  pub channel : Octets 2 (t .channel)
-  pub mid : Octets 2 (t .mid)
-  pub reciprocal : Octets 2 (t .reciprocal)
-
-abbrev pub FitReply : Reply → Type 0
-FitReply reply.Nothing = Unit {0}
-FitReply (reply.Ack r) = Octets 4 (r .0)
-FitReply (reply.Leaving reason r) = Octets 1 reason × Octets 4 (r .0)
-
-abbrev pub FitEvent : Event → Type 0
-FitEvent event.Nothing = Unit {0}
-FitEvent (event.Nak r first last outbound) = Octets 4 (r .0) × Octets 4 (first .0) × Octets 4 (last .0)
-FitEvent (event.Leaving reason r) = Octets 1 reason × Octets 4 (r .0)
-
-abbrev pub FitDecision : Decision → Type 0
-FitDecision (decision.Refuse reason) = Octets 1 reason
-FitDecision (decision.Again r reciprocal) = Octets 4 (r .0) × Octets 2 reciprocal
-FitDecision (decision.Make p) = Unit {0}
-
--- who asks to join, by which channel and MID, and at which number
-pub record FitAsked (sender : Cid) (j : Join) : Type 0 where
-  pub owner : FitCid sender
-  pub channel : Octets 2 (j .channel)
-  pub mid : Octets 2 (j .mid)
-  pub reliable : Octets 4 (j .reliable .0)
 
 member-fits : (t : Terms) (r : Reliable) → FitTerms t → Octets 4 (r .0) → FitMembership (memberAt t r)
 unfolding memberAt
@@ -339,10 +282,6 @@ leaving-octet n e = by (ltb n 256) refl
 pub leave-read : (r : Record) (reason : ℕ) → Sound r → FitTerms (r .terms) → leavingReason reason ≡ true
     → ReadFrom (sentOf (departure (r .terms) (r .reliable) reason)) 0 (departure (r .terms) (r .reliable) reason ∷ [])
 leave-read r reason s f e = departure-read (r .terms) (r .reliable) reason f (s .reliable) (leaving-octet reason e)
-
-abbrev pub FitExisting : Existing → Type 0
-FitExisting (existing.Known mid r reciprocal) = Octets 4 (r .0) × Octets 2 reciprocal
-FitExisting existing.Unknown = Unit {0}
 
 pub decided-fits : (j : Join) (e : Existing) (n : ℕ) (free : Bool) → FitExisting e → FitDecision (decided j e n free)
 unfolding decided decideNew

@@ -6,4 +6,5 @@ pub mod Channel
 pub mod TwoRuns
 pub mod Frame
 pub mod Order
+pub mod ReadBack
 pub mod Examples
