@@ -40,12 +40,12 @@ use Rattle.member.specs.Messages.{Outcome, refusedMessage, existingAt, isFound,
 use Rattle.member.specs.Elapsing.{longest, Passing, refusedElapsed, passing, elapsedOutcome, sentBy}
 use Rattle.member.specs.Leaving.{Departing, refusedLeave, departing, leaveFor, leaveOutcome}
 use Rattle.member.specs.declared.Given.the-variants as given
-use Rattle.demands.specs.Calls.{Sound}
+use Rattle.demands.specs.Calls.{Sound, Both}
 use Rattle.demands.specs.Channel.{entryAt}
 use Rattle.demands.specs.ReadBack.{ReadFrom, replyMeans, eventMeans, givenMeans, leaveMeans, FitTerms, FitAsked, FitExisting, Wide}
 use Rattle.demands.proofs.Lemmas.Asks as asks
 use Rattle.demands.proofs.Lemmas.Asks.{Asks}
-use Rattle.demands.proofs.Lemmas.Sounds.{either, Both}
+use Rattle.demands.proofs.Lemmas.Sounds.{either}
 use Rattle.demands.proofs.Lemmas.Brought.{wrapper-says}
 use Rattle.demands.proofs.Lemmas.Sample as sample
 use Rattle.demands.proofs.RepliesReadBack.{none-read, step-reply-read, elapsed-read, leave-read, decided-read, join-fits, existing-fits, terms-fit}

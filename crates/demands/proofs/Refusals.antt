@@ -42,13 +42,13 @@ use Rattle.member.specs.Sizes.{cellSize, messageSizes, elapsedSizes, leaveSizes
 use Rattle.member.specs.Messages.{Outcome, isFound, refusedMessage, joinOutcome, planOutcome, steppedOutcome, wrapperOutcome, askedOutcome, messageOutcome, numberOf, messaged, messageEnd}
 use Rattle.member.specs.Elapsing.{longest, Passing, refusedElapsed, passing, elapsedOutcome, cellOf, cellsFrom, elapsedEnd}
 use Rattle.member.specs.Leaving.{Departing, refusedLeave, departing, leaveFor, leaveOutcome, left, leaveEnd}
-use Rattle.demands.specs.Refusals.{Check, firstOf, First, None, check, unreadable, isWrapper, tooLong, recordOf, isOld, isInconsistent, messageChecks, elapsedChecks, leaveChecks, messageStands, elapsedStands, leaveStands}
+use Rattle.demands.specs.Refusals.{firstOf, First, None, check, unreadable, isWrapper, tooLong, recordOf, isOld, isInconsistent, messageChecks, elapsedChecks, leaveChecks, messageStands, elapsedStands, leaveStands}
 use Rattle.demands.proofs.Lemmas.Checks.{Numbered, empty, numbered, first-is-given, given-is-first, none-is-given, given-is-none}
 
 -- ---- elapsed and leave calls
 
 -- refused by a number with everything as before, or accepted
-pub data Elapsed (ts : List Record) : ℕ → Passing → Type 0 where
+data Elapsed (ts : List Record) : ℕ → Passing → Type 0 where
   refused : (n : ℕ) → Elapsed ts n (refusedElapsed ts n)
   accepted : (p : Passing) → p .number ≡ 0 → Elapsed ts 0 p
 
@@ -102,7 +102,7 @@ elapsed-leaves ts cells ms z = by (elapsed-told ts (length cells) ms) z
         }
     by (accepted p e) z = absurd (z refl)
 
-pub data Left (ts : List Record) : ℕ → Departing → Type 0 where
+data Left (ts : List Record) : ℕ → Departing → Type 0 where
   refused : (n : ℕ) → Left ts n (refusedLeave ts n)
   accepted : (p : Departing) → p .number ≡ 0 → Left ts 0 p
 
@@ -144,7 +144,7 @@ leave-leaves ts reply owner channel reason z = by (leave-told ts (length reply) 
 -- ---- a message call
 
 -- a call that is refused by a number, with everything as before, or one that is accepted
-pub data Told (ts : List Record) (held : List ℕ) : ℕ → Outcome → Type 0 where
+data Told (ts : List Record) (held : List ℕ) : ℕ → Outcome → Type 0 where
   refused : (n : ℕ) → Told ts held n (refusedMessage ts held n)
   accepted : (o : Outcome) → numberOf (o .given) ≡ 0 → Told ts held 0 o
 
@@ -261,7 +261,7 @@ module _ (ts : List Record) (held : List ℕ) (s : Cid) (n : ℕ) (c : List ℕ)
       split false e =
           by e (readable v d) (eqb v reliableWrapper) (eqb v unreliableWrapper) (eqb v join) (same (joinOf d .cid) o) refl
 
-pub message-told : (ts : List Record) (held : List ℕ) (deliver reply : ℕ) (sender ours : List ℕ) (v : ℕ) (d : List ℕ) (n : ℕ)
+message-told : (ts : List Record) (held : List ℕ) (deliver reply : ℕ) (sender ours : List ℕ) (v : ℕ) (d : List ℕ) (n : ℕ)
     → Told ts held (firstOf (messageChecks ts held deliver reply sender ours v d)) (messageOutcome ts held deliver reply sender ours v d n)
 unfolding messageOutcome firstOf
 message-told ts held deliver reply sender ours v d n =
@@ -305,20 +305,17 @@ message-leaves ts held deliver reply sender ours v d n z = by (message-told ts h
 -- ---- exactly if, both ways: number n is given exactly if its condition holds and no earlier one, and a call is accepted exactly if none holds
 
 module _ (ts : List Record) (held : List ℕ) (deliver reply : ℕ) (sender ours : List ℕ) (v : ℕ) (d : List ℕ) (n : ℕ) where
-  abbrev checks : List Check
-  checks = messageChecks ts held deliver reply sender ours v d
-
   pub message-refused : (k : ℕ) → (k ≡ 0 → ⊥)
-      → (numberOf (messageOutcome ts held deliver reply sender ours v d n .given) ≡ k) ↔ First k checks
+      → (numberOf (messageOutcome ts held deliver reply sender ours v d n .given) ≡ k) ↔ First k (messageChecks ts held deliver reply sender ours v d)
   message-refused k z = (
-    λ e. given-is-first k checks z (sym (message-number ts held deliver reply sender ours v d n) ∙ e),
-    λ f. message-number ts held deliver reply sender ours v d n ∙ first-is-given k checks f,
+    λ e. given-is-first k _ z (sym (message-number ts held deliver reply sender ours v d n) ∙ e),
+    λ f. message-number ts held deliver reply sender ours v d n ∙ first-is-given k _ f,
   )
 
-  pub message-accepted : (numberOf (messageOutcome ts held deliver reply sender ours v d n .given) ≡ 0) ↔ None checks
+  pub message-accepted : (numberOf (messageOutcome ts held deliver reply sender ours v d n .given) ≡ 0) ↔ None (messageChecks ts held deliver reply sender ours v d)
   message-accepted = (
-    λ e. given-is-none checks all (sym (message-number ts held deliver reply sender ours v d n) ∙ e),
-    λ f. message-number ts held deliver reply sender ours v d n ∙ none-is-given checks f,
+    λ e. given-is-none _ all (sym (message-number ts held deliver reply sender ours v d n) ∙ e),
+    λ f. message-number ts held deliver reply sender ours v d n ∙ none-is-given _ f,
   )
     where
       all : Numbered (messageChecks ts held deliver reply sender ours v d)

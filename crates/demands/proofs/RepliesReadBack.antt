@@ -66,10 +66,10 @@ use Rattle.writing.specs.Fields.{fieldsOf}
 use Rattle.writing.specs.Fits.{Octets, FitMembership, Fits}
 use Rattle.writing.specs.Writing.{vectorOf, addressOf, hasForm, contentsOf, pduOf}
 use Rattle.sending.specs.Sent.{sentOf, replyOf, eventOf, welcomeOf, joinReplyOf}
-use Rattle.demands.specs.Calls.{Sound}
+use Rattle.demands.specs.Calls.{Sound, Both}
 use Rattle.demands.specs.ReadBack.{ReadAt, ReadFrom, replyMeans, eventMeans, joinMeans, FitTerms, FitReply, FitEvent, FitDecision, FitAsked, FitExisting}
 use Rattle.demands.proofs.Lemmas.Back.{short, message-back}
-use Rattle.demands.proofs.Lemmas.Sounds.{either, Both, taken-sound}
+use Rattle.demands.proofs.Lemmas.Sounds.{either, taken-sound}
 use Rattle.demands.proofs.Lemmas.Brought.{number-short}
 use Rattle.demands.proofs.Lemmas.Kept.{terms-kept}
 use Rattle.demands.proofs.Lemmas.Sample as sample
@@ -196,7 +196,7 @@ join-reply-read owner j n (decision.Make p) f o g = welcome-read owner j n f o
 -- ---- what the steps send has the width of its fields
 
 -- an ACK and a Leaving of a step carry R as the step leaves it
-abbrev pub Says : Record → Reply → Type 0
+abbrev Says : Record → Reply → Type 0
 Says r reply.Nothing = Unit {0}
 Says r (reply.Ack n) = n ≡ r .reliable
 Says r (reply.Leaving reason n) = (reason ≡ lostSequence) × (n ≡ r .reliable)
@@ -218,7 +218,7 @@ settled-says r w =
     (refl, sym (gapped-reliable r (w .oldest)))
     (acknowledged-says (gapped r (w .oldest) .after) w)
 
-pub step-says : (r : Record) (w : Arrived) → Says (taken r w .after) (taken r w .reply)
+step-says : (r : Record) (w : Arrived) → Says (taken r w .after) (taken r w .reply)
 unfolding taken
 step-says r w = settled-says (released (placed (heard r (w .reliable)) w .after) .after) w
 
@@ -227,7 +227,7 @@ says-fits r reply.Nothing h q = tt
 says-fits r (reply.Ack n) h q = rw q h
 says-fits r (reply.Leaving reason n) h q = (rw (q .0) (lit< tt), rw (q .1) h)
 
-pub step-fits : (r : Record) (w : Arrived) → Sound r → Both (w .total) (w .reliable) → FitReply (taken r w .reply)
+step-fits : (r : Record) (w : Arrived) → Sound r → Both (w .total) (w .reliable) → FitReply (taken r w .reply)
 step-fits r w s b = says-fits (taken r w .after) (taken r w .reply) (taken-sound r w s b .reliable) (step-says r w)
 
 -- the octets of a wrapper's reply are read as what the step replies, whatever the wrapper
@@ -241,7 +241,7 @@ last-fits : (n : Nearest) (k : Reliable) → k .0 < turn → endBy n k .0 < turn
 last-fits (near.Held n) k h = before-below 1 (n .0)
 last-fits near.Nothing k h = h
 
-pub elapsed-fits : (r : Record) (ms : ℕ) → Sound r → FitEvent (elapsedOf r ms .event)
+elapsed-fits : (r : Record) (ms : ℕ) → Sound r → FitEvent (elapsedOf r ms .event)
 unfolding nakFirst nakLast
 elapsed-fits r ms s = by (moves r ms)
   where
@@ -283,7 +283,7 @@ pub leave-read : (r : Record) (reason : ℕ) → Sound r → FitTerms (r .terms)
     → ReadFrom (sentOf (departure (r .terms) (r .reliable) reason)) 0 (departure (r .terms) (r .reliable) reason ∷ [])
 leave-read r reason s f e = departure-read (r .terms) (r .reliable) reason f (s .reliable) (leaving-octet reason e)
 
-pub decided-fits : (j : Join) (e : Existing) (n : ℕ) (free : Bool) → FitExisting e → FitDecision (decided j e n free)
+decided-fits : (j : Join) (e : Existing) (n : ℕ) (free : Bool) → FitExisting e → FitDecision (decided j e n free)
 unfolding decided decideNew
 decided-fits j e n free f = either FitDecision (legal j) _ _ (by (j .address) e f) (lit< tt)
   where

@@ -50,9 +50,9 @@ use Rattle.member.specs.Messages.{Outcome, existingAt, isFound, tableAfter, ref
 use Rattle.member.specs.Elapsing.{longest, Passing, elapsedOutcome, passed}
 use Rattle.member.specs.Leaving.{Departing, leaveFor, departing, leaveOutcome}
 use Rattle.demands.specs.Calls as calls
-use Rattle.demands.specs.Calls.{Call, State, tableStep, lentAs, Sound, Lawful, Right}
+use Rattle.demands.specs.Calls.{Call, State, tableStep, lentAs, Sound, Lawful, Right, Both}
 use Rattle.demands.proofs.Lemmas.Kept.{terms-kept}
-use Rattle.demands.proofs.Lemmas.Sounds.{either, Both, sound-by, aside, taken-sound, elapsed-sound, made-sound}
+use Rattle.demands.proofs.Lemmas.Sounds.{either, sound-by, aside, taken-sound, elapsed-sound, made-sound}
 use Rattle.demands.proofs.Lemmas.Brought.{Brings, asked-brings}
 
 -- ---- a table of the machine's numbers

@@ -24,8 +24,9 @@ use Rattle.table.specs.declared.Found.the-variants as search
 use Rattle.asking.specs.Asking.{wrapperFor, wrapperAsks, joinAsks, messageAsks, readAsks, askedOf}
 use Rattle.asking.specs.declared.Asked.{Asked}
 use Rattle.asking.specs.declared.Asked.the-variants as asked
+use Rattle.demands.specs.Calls.{Both}
 use Rattle.demands.proofs.Lemmas.Again.{octets-take, octets-drop}
-use Rattle.demands.proofs.Lemmas.Sounds.{either, Both}
+use Rattle.demands.proofs.Lemmas.Sounds.{either}
 
 -- a number in n octets is below 256^n, whether or not all of them are there
 pub number-short : (d : List ℕ) (at n : ℕ) → Octets d → numberAt d at n < 256 ^ n

@@ -27,9 +27,9 @@ use Rattle.carry.specs.Carried.{placeAt}
 use Rattle.carry.proofs.DeliveredLength.{each-at}
 use Rattle.member.specs.Sizes.{heldSize, deliverSize, replySize}
 use Rattle.demands.specs.Calls as calls
-use Rattle.demands.specs.Calls.{Call, State, Sound}
+use Rattle.demands.specs.Calls.{Call, State, Sound, Both}
 use Rattle.demands.specs.TwoRuns.{Joined}
-use Rattle.demands.proofs.Lemmas.Sounds.{Both, sound-by}
+use Rattle.demands.proofs.Lemmas.Sounds.{sound-by}
 use borrow.Author.Tests.{ltb-true}
 
 -- ---- messages

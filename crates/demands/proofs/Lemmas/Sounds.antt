@@ -36,16 +36,12 @@ use Rattle.wrapper.specs.declared.Search.{Search}
 use Rattle.wrapper.specs.declared.Search.the-variants as search
 use Rattle.wrapper.specs.declared.Settled.{Settled}
 use Rattle.wrapper.proofs.Releasing.{along, release-is, passing, heldAt}
-use Rattle.demands.specs.Calls.{Sound}
+use Rattle.demands.specs.Calls.{Sound, Both}
 
 -- what holds of either side of a choice
 pub either : {A : Type 0} (P : A → Type 0) (b : Bool) (x y : A) → P x → P y → P (cond b x y)
 either P true x y p q = p
 either P false x y p q = q
-
--- a total and a reliable number of 32 bits
-abbrev pub Both : Total → Reliable → Type 0
-Both t n = (t .0 < turn) × (n .0 < turn)
 
 -- ---- places
 
