@@ -4,14 +4,15 @@
 -- widths of their fields (`Wide`), a CID and data are octets, and a reciprocal channel number has two octets. The example at the end meets that.
 use Prim.Native.Nat.{ℕ, _<_}
 use mathlib.Core.Bool.{Bool, true, false, cond, not}
-use mathlib.Core.List.{List, []}
+use mathlib.Core.List.{List, [], _∷_}
 use mathlib.Core.Path.{_≡_, refl, sym, subst}
 use lib.Dec.{ltb, eqb, lit<}
 use lib.ListN.{length, replicate, List·getD-map}
 use borrow.Author.Tests.{eqb-true}
 use Rattle.octets.proofs.Numbers.{Octets as Bytes}
+use Rattle.octets.specs.Octets.{number}
 use Rattle.message.specs.Lengths.{reliableWrapper}
-use Rattle.message.specs.Layouts.{cidAt, wrapperOf, joinOf}
+use Rattle.message.specs.Layouts.{cidAt, wrapperOf, joinOf, reliable}
 use Rattle.message.specs.Reading.{contents}
 use Rattle.message.specs.declared.Cid.{Cid}
 use Rattle.message.specs.declared.Join.{Join}
@@ -19,13 +20,16 @@ use Rattle.message.specs.declared.Wrapper.{Wrapper}
 use Rattle.record.specs.Reasons.{leavingReason}
 use Rattle.record.specs.WellFormed.{mostContents}
 use Rattle.record.specs.declared.Record.{Record}
-use Rattle.gap.specs.Elapsed.{gives, elapsedOf}
+use Rattle.gap.specs.Elapsed.{gives, elapsedOf, phased, inStandoff}
 use Rattle.gap.specs.declared.Elapsed.{Elapsed}
 use Rattle.gap.specs.declared.Event.the-variants as event
+use Rattle.gap.specs.Range.{nearer, nearest, nakFirst, nakLast}
+use Rattle.gap.specs.declared.Event.{Event}
 use Rattle.wrapper.specs.Taken.{stepped}
 use Rattle.wrapper.specs.declared.Arrived.{Arrived}
 use Rattle.wrapper.specs.declared.Plan.{Plan}
-use Rattle.table.specs.Table.{same, found, lowestFree, tableFormed, blank, recordAt}
+use Rattle.joining.specs.Replies.{departure, missing}
+use Rattle.table.specs.Table.{same, found, lowestFree, tableFormed, blank, recordAt, named}
 use Rattle.table.specs.declared.Found.{Found}
 use Rattle.table.specs.declared.Found.the-variants as search
 use Rattle.table.proofs.Finding.{found-at}
@@ -35,7 +39,7 @@ use Rattle.carry.proofs.PlanFits.{stepped-taken}
 use Rattle.carry.proofs.DeliveredLength.{each-at}
 use Rattle.asking.specs.Asking.{arrivedOf, wrapperFor, wrapperAsks, joinAsks}
 use Rattle.asking.specs.declared.Asked.{Asked}
-use Rattle.member.specs.Sizes.{deliverSize, replySize, messageSizes, elapsedSizes, leaveSizes}
+use Rattle.member.specs.Sizes.{deliverSize, replySize, messageSizes, elapsedSizes, leaveSizes, cellsSize}
 use Rattle.member.specs.Messages.{Outcome, refusedMessage, existingAt, isFound, joinOutcome, planOutcome, wrapperOutcome, askedOutcome, messageOutcome}
 use Rattle.member.specs.Elapsing.{longest, Passing, refusedElapsed, passing, elapsedOutcome, sentBy}
 use Rattle.member.specs.Leaving.{Departing, refusedLeave, departing, leaveFor, leaveOutcome}
@@ -159,7 +163,7 @@ leave-replies ts reply owner channel reason wide =
     by search.Nowhere e = none-read
     by (search.At i) e = on i (found-at (cidAt owner 0) channel ts i e .0) (leavingReason reason) refl
 
--- ---- an example: the table in which record 2 has channel 7 of the first owner, and the second owner's Join to channel 7
+-- ---- examples: the table in which record 2 has channel 7 of the first owner, and on it the second owner's Join to channel 7, elapsed time, and a leave call
 
 wide-table : Wide (sample.tableOf sample.free)
 wide-table =
@@ -182,3 +186,26 @@ join-replies : (held : List ℕ)
 join-replies held =
     message-replies (sample.tableOf sample.free) held deliverSize replySize (sample.cid 3 4) (replicate 16 0) 4 sample.joinData 9 wide-table
     (sample.lawful (sample.cid 3 4) refl) (sample.lawful sample.joinData refl) (lit< tt)
+
+-- time passes, and record 2 asks for the number that it misses
+asks-for : entryAt (elapsedOutcome (sample.tableOf sample.free) cellsSize 50) 2 .event ≡ event.Nak (reliable 10) (reliable 11) (reliable 11) false
+unfolding elapsedOutcome elapsedSizes elapsedOf phased inStandoff nakFirst nakLast nearest nearer
+asks-for = rw (sample.joined-one .right .formed)
+
+nak-sent : ReadFrom (sentBy (entryAt (elapsedOutcome (sample.tableOf sample.free) cellsSize 50) 2)) 0
+    (missing (sample.holding sample.first .terms) (reliable 10) (reliable 11) (reliable 11) ∷ [])
+nak-sent =
+    subst
+    (λ (e : Event).
+    ReadFrom (sentBy (entryAt (elapsedOutcome (sample.tableOf sample.free) cellsSize 50) 2)) 0 (eventMeans (sample.holding sample.first .terms) e))
+    asks-for
+    (elapsed-sends (sample.tableOf sample.free) cellsSize 50 2 wide-table (lit< tt))
+
+-- the caller leaves channel 7 of the first owner
+leaves : leaveOutcome (sample.tableOf sample.free) replySize (sample.cid 1 2) 7 1 ≡ departing (sample.tableOf sample.free) 2 1
+unfolding leaveOutcome leaveSizes found named same cidAt number leavingReason
+leaves = rw (sample.joined-one .right .formed)
+
+leaving-sent : ReadFrom (departing (sample.tableOf sample.free) 2 1 .reply) 0 (departure (sample.holding sample.first .terms) (reliable 10) 1 ∷ [])
+unfolding departing
+leaving-sent = rw leaves at (leave-replies (sample.tableOf sample.free) replySize (sample.cid 1 2) 7 1 wide-table)

@@ -1,4 +1,4 @@
--- A gap ends (01, "One channel"): add up the accepted elapsed times from the call on in which a channel's gap begins. Before they exceed NAK_MAX_RETRIES rounds of a
+-- A gap ends (01, "One channel"): add up the accepted elapsed times from the call on in which a channel's gap begins. By the time they exceed NAK_MAX_RETRIES rounds of a
 -- whole standoff, a whole wait and two seconds for the calls that pass their ends, the gap has closed or the channel is left, whatever other calls lie between (`gap-ends`).
 -- Assumes that the channel is joined in a right table and that the data of messages are octets; the example at the end meets all that is assumed.
 use Prim.Native.Nat.{ℕ, zero, suc, _+_, _-_, _*_, _<_, _≤_}

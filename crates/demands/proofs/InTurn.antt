@@ -13,7 +13,7 @@ use mathlib.Core.List.{List, [], _∷_, _++_, map}
 use mathlib.Core.Logic.{_⊎_, inl, inr, _≢_}
 use mathlib.Core.Path.{_≡_, refl, sym, ap, ap₂, subst, _∙_}
 use native.Mathlib.Omega.{arith}
-use lib.Dec.{ltb, eqb}
+use lib.Dec.{ltb, eqb, lit≤, lit<}
 use lib.IntN.{pos}
 use lib.ListN.{length, getD, take, set, replicate}
 use Rattle.octets.specs.Octets.{number}
@@ -373,6 +373,13 @@ in-order-of : reliableNumbers (deliveredAll (shown (own sample.first 7) (viewAt 
     ≡ following 10 (length (reliableNumbers (deliveredAll (shown (own sample.first 7) (viewAt 2) live (run tableStep (sample.stateOf sample.free 0) comes)))))
 unfolding channelAt
 in-order-of = reliable-in-order 2 sample.first 7 (sample.stateOf sample.free 0) comes lawful-comes sample.joined-one
+
+-- the two numbers differ
+once : getD (reliableNumbers (deliveredAll (shown (own sample.first 7) (viewAt 2) live (run tableStep (sample.stateOf sample.free 0) comes)))) 0 0
+    ≢ getD (reliableNumbers (deliveredAll (shown (own sample.first 7) (viewAt 2) live (run tableStep (sample.stateOf sample.free 0) comes)))) 1 0
+once =
+    delivered-once 2 sample.first 7 (sample.stateOf sample.free 0) comes lawful-comes sample.joined-one 0 1
+    (rw numbers (lit≤ tt)) (lit< tt) (rw numbers (lit< tt))
 
 -- the second owner's Join is answered with reciprocal channel 9
 abbrev joinCall : Call
