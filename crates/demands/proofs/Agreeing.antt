@@ -21,13 +21,13 @@ use Rattle.record.specs.declared.Record.{Record}
 use Rattle.gap.specs.Elapsed.{elapsedOf}
 use Rattle.gap.specs.declared.Elapsed.{Elapsed}
 use Rattle.gap.proofs.Moves.{Move, stands, expires, lost, goes-on, moves}
-use Rattle.wrapper.specs.Release.{noPlace}
+use Rattle.record.specs.Places.{noPlace}
 use Rattle.wrapper.specs.Taken.{taken, stepped}
 use Rattle.wrapper.specs.declared.Arrived.{Arrived}
 use Rattle.wrapper.specs.declared.Plan.{Plan}
 use Rattle.table.specs.Table.{same}
 use Rattle.sending.specs.Sent.{replyOf}
-use Rattle.carry.specs.Carried.{Delivered, placeAt, heldAfter}
+use Rattle.carry.specs.Carried.{Delivered, placeBegins, heldAfter}
 use Rattle.carry.specs.Fits.{Fits}
 use Rattle.carry.proofs.PlanFits.{plan-fits, stepped-taken}
 use Rattle.carry.proofs.HeldAgree.{AgreeAt, Agree, held-agree, agree-after}
@@ -100,7 +100,7 @@ module _
 
       after-agree : AgreeIn (taken r w .after .places) (heldAfter 0 (taken r w .fate) c (slab i h)) (heldAfter 0 (taken r w .fate) c (slab i g))
       after-agree j l u n =
-          let octets : List ℕ → List ℕ = λ s. part s (placeAt 0 j) (getD (taken r w .after .places) j noPlace .len) in
+          let octets : List ℕ → List ℕ = λ s. part s (placeBegins 0 j) (getD (taken r w .after .places) j noPlace .len) in
           ap octets (sym (slab-after i (taken r w .fate) c h hi (fits .place) most room-h))
           ∙ slab-place i j _ (heldAfter i (taken r w .fate) c h) l n
           ∙ agree-after r w used well four c said most i hi h g room-h room-g agree j u

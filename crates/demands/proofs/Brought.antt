@@ -7,7 +7,8 @@ use mathlib.Core.List.{List}
 use lib.Dec.{lit<, ltb, eqb}
 use lib.ListN.{length, drop, length-take}
 use Rattle.octets.specs.Octets.{part, numberAt}
-use Rattle.octets.proofs.Numbers.{Octets, number-below}
+use Rattle.octets.specs.Octets.{Octets}
+use Rattle.octets.proofs.Numbers.{number-below}
 use Rattle.message.specs.Lengths.{reliableWrapper, unreliableWrapper, join, joinRefuse, joinAccept, leaving, ack, nak}
 use Rattle.message.specs.Layouts.{wrapperOf, joinOf}
 use Rattle.message.specs.Reading.{readable, fixedOf, messageOf, readMessage, contents}
@@ -18,6 +19,7 @@ use Rattle.message.specs.declared.Message.the-variants as message
 use Rattle.message.specs.declared.MessageRead.the-variants.{Read, Unreadable}
 use Rattle.record.specs.WellFormed.{mostContents}
 use Rattle.record.specs.declared.Record.{Record}
+use Rattle.record.proofs.Choices.{either}
 use Rattle.table.specs.Table.{same, found}
 use Rattle.table.specs.declared.Found.{Found}
 use Rattle.table.specs.declared.Found.the-variants as search
@@ -25,7 +27,7 @@ use Rattle.asking.specs.Asking.{wrapperFor, wrapperAsks, joinAsks, messageAsks,
 use Rattle.asking.specs.declared.Asked.{Asked}
 use Rattle.asking.specs.declared.Asked.the-variants as asked
 use Rattle.demands.proofs.Again.{octets-take, octets-drop}
-use Rattle.demands.proofs.Sounds.{either, Both}
+use Rattle.demands.proofs.Sounds.{Both}
 
 -- a number in n octets is below 256^n, whether or not all of them are there
 pub number-short : (d : List ℕ) (at n : ℕ) → Octets d → numberAt d at n < 256 ^ n

@@ -9,7 +9,7 @@ use mathlib.Core.Path.{_≡_, refl, sym, subst}
 use lib.Dec.{ltb, eqb, lit<}
 use lib.ListN.{length, replicate, List·getD-map}
 use borrow.Author.Tests.{eqb-true}
-use Rattle.octets.proofs.Numbers.{Octets as Bytes}
+use Rattle.octets.specs.Octets.{Octets as Bytes}
 use Rattle.message.specs.Lengths.{reliableWrapper}
 use Rattle.message.specs.Layouts.{cidAt, wrapperOf, joinOf}
 use Rattle.message.specs.Reading.{contents}
@@ -20,6 +20,7 @@ use Rattle.message.specs.declared.Wrapper.{Wrapper}
 use Rattle.record.specs.Reasons.{leavingReason}
 use Rattle.record.specs.WellFormed.{mostContents}
 use Rattle.record.specs.declared.Record.{Record}
+use Rattle.record.proofs.Choices.{either}
 use Rattle.gap.specs.Elapsed.{gives, elapsedOf}
 use Rattle.gap.specs.declared.Elapsed.{Elapsed}
 use Rattle.gap.specs.declared.Event.the-variants as event
@@ -47,7 +48,7 @@ use Rattle.demands.specs.Calls.{Sound}
 use Rattle.demands.specs.Channel.{entryAt}
 use Rattle.demands.proofs.Asks as asks
 use Rattle.demands.proofs.Asks.{Asks}
-use Rattle.demands.proofs.Sounds.{either, Both}
+use Rattle.demands.proofs.Sounds.{Both}
 use Rattle.demands.proofs.Brought.{wrapper-says}
 use Rattle.demands.proofs.OwnStepsOnly as example
 use Rattle.demands.proofs.Sample as sample

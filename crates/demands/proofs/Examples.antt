@@ -17,6 +17,7 @@ use Rattle.message.specs.Reading.{readable, fixedOf, messageOf, readMessage}
 use Rattle.message.specs.declared.Message.the-variants as message
 use Rattle.message.specs.declared.MessageRead.{MessageRead}
 use Rattle.message.specs.declared.MessageRead.the-variants as read
+use Rattle.record.specs.Places.{noPlace}
 use Rattle.record.specs.Reasons.{lostSequence}
 use Rattle.record.specs.WellFormed.{closed}
 use Rattle.record.specs.declared.Gap.the-variants as gap
@@ -34,7 +35,6 @@ use Rattle.wrapper.specs.declared.Fate.the-variants as fate
 use Rattle.wrapper.specs.declared.Reply.{Reply}
 use Rattle.wrapper.specs.declared.Reply.the-variants as reply
 use Rattle.wrapper.specs.declared.Stepped.{Stepped}
-use Rattle.table.specs.Table.{freshPlace}
 
 -- ---- what an example gives, and what comes of it
 
@@ -84,7 +84,7 @@ quiet t r a =
       acked = reliable a;
       idle = 0;
       gap = gap.Quiet;
-      places = replicate 4 freshPlace;
+      places = replicate 4 noPlace;
     }
 
 abbrev pub told : Stepped → Comes

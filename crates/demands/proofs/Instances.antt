@@ -6,7 +6,7 @@ use mathlib.Core.Logic.{_≢_}
 use mathlib.Core.Path.{_≡_, refl, sym, subst, _∙_}
 use native.Mathlib.Omega.{arith}
 use lib.ListN.{length, replicate}
-use Rattle.gap.proofs.Moves.{never}
+use Rattle.record.proofs.Choices.{never}
 use Rattle.table.specs.Table.{found, named, tableFormed, freeTable}
 use Rattle.table.specs.declared.Found.the-variants as search
 use Rattle.table.proofs.Tables.{free-table-formed}

@@ -11,7 +11,7 @@ use native.Mathlib.Omega.{arith}
 use lib.Dec.{lit<}
 use lib.ListN.{length, getD, replicate, length-replicate}
 use Rattle.octets.specs.Octets.{number, part, splice}
-use Rattle.octets.proofs.Numbers.{Octets}
+use Rattle.octets.specs.Octets.{Octets}
 use Rattle.octets.proofs.Writes.{length-splice, part-splice}
 use Rattle.counter.specs.Distance.{distance}
 use Rattle.message.specs.Layouts.{total, reliable, cidAt}
@@ -27,11 +27,11 @@ use Rattle.record.specs.declared.Terms.{Terms}
 use Rattle.record.proofs.Formed.{formed}
 use Rattle.gap.specs.Elapsed.{inStandoff, phased, elapsedOf}
 use Rattle.gap.specs.declared.Event.the-variants as event
-use Rattle.wrapper.specs.Release.{noPlace}
-use Rattle.table.specs.Table.{same, named, differs, tableFormed, blank, freshPlace, recordAt}
+use Rattle.record.specs.Places.{noPlace}
+use Rattle.table.specs.Table.{same, named, differs, tableFormed, blank, recordAt}
 use Rattle.table.proofs.Tables.{named-is, is-named}
-use Rattle.carry.specs.Carried.{placeAt}
-use Rattle.carry.proofs.PlanFits.{used-below}
+use Rattle.carry.specs.Carried.{placeBegins}
+use Rattle.record.proofs.Stored.{used-below}
 use Rattle.carry.proofs.DeliveredLength.{each-at}
 use Rattle.sending.specs.Sent.{eventOf}
 use Rattle.member.specs.Sizes.{heldSize, elapsedSizes}
@@ -109,8 +109,8 @@ own-run i owner channel s cs each joined = shown-alone (own-law i owner channel)
 pub record SameChannel (i : ℕ) (s t : State) : Type 0 where
   pub at : recordAt (s .table) i ≡ recordAt (t .table) i
   pub held : (j : ℕ) → getD (recordAt (s .table) i .places) j noPlace .used ≡ true
-      → part (s .held) (placeAt i j) (getD (recordAt (s .table) i .places) j noPlace .len)
-      ≡ part (t .held) (placeAt i j) (getD (recordAt (s .table) i .places) j noPlace .len)
+      → part (s .held) (placeBegins i j) (getD (recordAt (s .table) i .places) j noPlace .len)
+      ≡ part (t .held) (placeBegins i j) (getD (recordAt (s .table) i .places) j noPlace .len)
 
 -- what is seen of the channel after one of its own calls: its record, and the answer with all octets delivered and replied
 pub record Seen : Type 0 where
@@ -256,7 +256,7 @@ holding owner =
       acked = reliable 10;
       idle = 0;
       gap = gap.Standoff 50 0;
-      places = record { used = true; total = total 12; reliable = reliable 12; len = 3 } ∷ replicate 3 freshPlace;
+      places = record { used = true; total = total 12; reliable = reliable 12; len = 3 } ∷ replicate 3 noPlace;
     }
 
 abbrev pub first : Cid
@@ -266,7 +266,7 @@ abbrev pub second : Cid
 second = record { high = 3; low = 4 }
 
 abbrev pub free : Record
-free = blank (replicate 4 freshPlace)
+free = blank (replicate 4 noPlace)
 
 -- record 5 is r, and record 2 has channel 7 of the first owner
 abbrev pub tableOf : Record → List Record
@@ -274,17 +274,17 @@ tableOf r = free ∷ free ∷ holding first ∷ free ∷ free ∷ r ∷ free ∷
 
 -- the wrapper's octets, and the octet x all around
 unfoldable pub heldOf : ℕ → List ℕ
-heldOf x = splice (replicate heldSize x) (placeAt 2 0) (1 ∷ 2 ∷ 3 ∷ [])
+heldOf x = splice (replicate heldSize x) (placeBegins 2 0) (1 ∷ 2 ∷ 3 ∷ [])
 
 abbrev pub stateOf : Record → ℕ → State
 stateOf r x = record { table = tableOf r; held = heldOf x }
 
-fresh : (n j : ℕ) → getD (replicate n freshPlace) j noPlace ≡ freshPlace
+fresh : (n j : ℕ) → getD (replicate n noPlace) j noPlace ≡ noPlace
 fresh zero j = refl
 fresh (suc n) zero = refl
 fresh (suc n) (suc j) = fresh n j
 
-pub fresh-below : (n j : ℕ) → Both (getD (replicate n freshPlace) j noPlace .total) (getD (replicate n freshPlace) j noPlace .reliable)
+pub fresh-below : (n j : ℕ) → Both (getD (replicate n noPlace) j noPlace .total) (getD (replicate n noPlace) j noPlace .reliable)
 fresh-below n j = rw (fresh n j) (lit< tt, lit< tt)
 
 pub sound-free : Sound free
@@ -298,10 +298,10 @@ sound-holding owner = sound-by refl (lit< tt, lit< tt) (lit< tt) (lit< tt) held
     held (suc j) = fresh-below 3 j
 
 pub held-size : (x : ℕ) → length (heldOf x) ≡ heldSize
-unfolding heldOf placeAt
+unfolding heldOf placeBegins
 held-size x =
     let l : length (replicate heldSize x) ≡ heldSize = length-replicate heldSize x in
-    length-splice (replicate heldSize x) (placeAt 2 0) (1 ∷ 2 ∷ 3 ∷ []) (omega arith) ∙ l
+    length-splice (replicate heldSize x) (placeBegins 2 0) (1 ∷ 2 ∷ 3 ∷ []) (omega arith) ∙ l
 
 pub joined-in : (r : Record) (x : ℕ) → Sound r → tableFormed (tableOf r) ≡ true → Joined 2 first 7 (stateOf r x)
 unfolding named same
@@ -329,22 +329,22 @@ unfolding tableFormed
     differs named same wellFormed termsRight legalNames legalParameters minExpiry distance heldAllRight heldRight heldApart apartFrom apart gapRight closed maxRetries
 joined-two = joined-in (holding second) 255 (sound-holding second) refl
 
-written-at : (x : ℕ) → placeAt 2 0 ≤ length (replicate heldSize x)
-unfolding placeAt
+written-at : (x : ℕ) → placeBegins 2 0 ≤ length (replicate heldSize x)
+unfolding placeBegins
 written-at x =
     let l : length (replicate heldSize x) ≡ heldSize = length-replicate heldSize x in
     omega arith
 
-written : (x : ℕ) → part (heldOf x) (placeAt 2 0) 3 ≡ 1 ∷ 2 ∷ 3 ∷ []
+written : (x : ℕ) → part (heldOf x) (placeBegins 2 0) 3 ≡ 1 ∷ 2 ∷ 3 ∷ []
 unfolding heldOf
-written x = part-splice (replicate heldSize x) (placeAt 2 0) (1 ∷ 2 ∷ 3 ∷ []) (written-at x)
+written x = part-splice (replicate heldSize x) (placeBegins 2 0) (1 ∷ 2 ∷ 3 ∷ []) (written-at x)
 
 same-two : SameChannel 2 (stateOf free 0) (stateOf (holding second) 255)
 same-two = record { at = refl; held = held }
   where
     held : (j : ℕ) → getD (holding first .places) j noPlace .used ≡ true
-        → part (heldOf 0) (placeAt 2 j) (getD (holding first .places) j noPlace .len)
-        ≡ part (heldOf 255) (placeAt 2 j) (getD (holding first .places) j noPlace .len)
+        → part (heldOf 0) (placeBegins 2 j) (getD (holding first .places) j noPlace .len)
+        ≡ part (heldOf 255) (placeBegins 2 j) (getD (holding first .places) j noPlace .len)
     held zero u = written 0 ∙ sym (written 255)
     held (suc j) u = absurd (false≢true (sym (ap (λ (p : Place). p .used) (fresh 3 j)) ∙ u))
 

@@ -14,7 +14,7 @@ use lib.ListN.{length, getD, length-append}
 use lib.Seq.{take-nil}
 use borrow.Author.Tests.{ltb-true, ltb-false, ne-eqb}
 use Rattle.octets.specs.Octets.{number, octets, part}
-use Rattle.octets.proofs.Numbers.{Octets as Bytes}
+use Rattle.octets.specs.Octets.{Octets as Bytes}
 use Rattle.counter.specs.Distance.{turn}
 use Rattle.counter.specs.declared.Reliable.{Reliable}
 use Rattle.counter.proofs.Distances.{next-below, before-below}
@@ -40,6 +40,7 @@ use Rattle.record.specs.WellFormed.{closed}
 use Rattle.record.specs.declared.Gap.{Gap}
 use Rattle.record.specs.declared.Record.{Record}
 use Rattle.record.specs.declared.Terms.{Terms}
+use Rattle.record.proofs.Choices.{either}
 use Rattle.gap.specs.Elapsed.{inStandoff, phased, elapsedOf}
 use Rattle.gap.specs.Range.{nearer, nearest, endBy, nakFirst, nakLast}
 use Rattle.gap.specs.declared.Elapsed.{Elapsed}
@@ -60,7 +61,7 @@ use Rattle.wrapper.specs.declared.Reply.{Reply}
 use Rattle.wrapper.specs.declared.Reply.the-variants as reply
 use Rattle.wrapper.specs.declared.Settled.{Settled}
 use Rattle.joining.specs.Joining.{legalBlock, legal, existingOf, decideNew, decideFor, decideAt, decided}
-use Rattle.joining.specs.Replies.{memberAt, askedAt, refusal, acceptance, departure, missing}
+use Rattle.joining.specs.Replies.{memberAt, askedAt, joinRefuseOf, acceptance, departure, missing}
 use Rattle.joining.specs.declared.Decision.{Decision}
 use Rattle.joining.specs.declared.Decision.the-variants as decision
 use Rattle.joining.specs.declared.Existing.{Existing}
@@ -71,7 +72,7 @@ use Rattle.writing.specs.Writing.{vectorOf, addressOf, hasForm, contentsOf, pdu
 use Rattle.sending.specs.Sent.{sentOf, replyOf, eventOf, welcomeOf, joinReplyOf}
 use Rattle.demands.specs.Calls.{Sound}
 use Rattle.demands.proofs.Back.{short, message-back}
-use Rattle.demands.proofs.Sounds.{either, Both, taken-sound}
+use Rattle.demands.proofs.Sounds.{Both, taken-sound}
 use Rattle.demands.proofs.Brought.{number-short}
 use Rattle.demands.proofs.Kept.{terms-kept}
 use Rattle.demands.proofs.OwnStepsOnly as example
@@ -152,7 +153,7 @@ eventMeans t (event.Nak r first last outbound) = missing t r first last ∷ []
 eventMeans t (event.Leaving reason r) = departure t r reason ∷ []
 
 abbrev pub joinMeans : Cid → Join → ℕ → Decision → List Message
-joinMeans owner j n (decision.Refuse reason) = refusal owner j reason ∷ []
+joinMeans owner j n (decision.Refuse reason) = joinRefuseOf owner j reason ∷ []
 joinMeans owner j n (decision.Again r reciprocal) = acceptance owner j r reciprocal ∷ []
 joinMeans owner j n (decision.Make p) = acceptance owner j (j .reliable) n ∷ message.Ack (j .reliable) ∷ []
 
@@ -212,10 +213,10 @@ missing-read : (t : Terms) (r first last : Reliable) → FitTerms t → Octets 4
 unfolding missing hasForm addressOf
 missing-read t r first last f h a b = one-read (missing t r first last) (member-fits t r f h, a, b) refl
 
-refusal-read : (owner : Cid) (j : Join) (reason : ℕ) → FitAsked owner j → Octets 1 reason
-    → ReadFrom (sentOf (refusal owner j reason)) 0 (refusal owner j reason ∷ [])
-unfolding refusal hasForm addressOf
-refusal-read owner j reason f o = one-read (refusal owner j reason) (asked-fits owner j (j .reliable) f (f .reliable), o) refl
+join-refuse-read : (owner : Cid) (j : Join) (reason : ℕ) → FitAsked owner j → Octets 1 reason
+    → ReadFrom (sentOf (joinRefuseOf owner j reason)) 0 (joinRefuseOf owner j reason ∷ [])
+unfolding joinRefuseOf hasForm addressOf
+join-refuse-read owner j reason f o = one-read (joinRefuseOf owner j reason) (asked-fits owner j (j .reliable) f (f .reliable), o) refl
 
 acceptance-read : (owner : Cid) (j : Join) (r : Reliable) (n : ℕ) → FitAsked owner j → Octets 4 (r .0) → Octets 2 n
     → ReadFrom (sentOf (acceptance owner j r n)) 0 (acceptance owner j r n ∷ [])
@@ -247,7 +248,7 @@ event-read t (event.Leaving reason r) f g = departure-read t r reason f (g .1) (
 pub join-reply-read : (owner : Cid) (j : Join) (n : ℕ) (x : Decision) → FitAsked owner j → Octets 2 n → FitDecision x
     → ReadFrom (joinReplyOf owner j n x) 0 (joinMeans owner j n x)
 unfolding joinReplyOf
-join-reply-read owner j n (decision.Refuse reason) f o g = refusal-read owner j reason f g
+join-reply-read owner j n (decision.Refuse reason) f o g = join-refuse-read owner j reason f g
 join-reply-read owner j n (decision.Again r reciprocal) f o g = acceptance-read owner j r reciprocal f (g .0) (g .1)
 join-reply-read owner j n (decision.Make p) f o g = welcome-read owner j n f o
 

@@ -7,7 +7,7 @@ use mathlib.Core.Path.{_≡_}
 use lib.Dec.{ltb, lit<}
 use lib.ListN.{replicate}
 use borrow.Author.Tests.{ltb-true}
-use Rattle.octets.proofs.Numbers.{Octets}
+use Rattle.octets.specs.Octets.{Octets}
 use Rattle.message.specs.Lengths.{reliableWrapper}
 use Rattle.member.specs.Sizes.{heldSize, deliverSize, replySize}
 use Rattle.demands.specs.Calls as calls

@@ -18,7 +18,8 @@ use Rattle.record.specs.declared.Gap.{Gap}
 use Rattle.record.specs.declared.Place.{Place}
 use Rattle.record.specs.declared.Terms.{Terms}
 use Rattle.record.specs.declared.Record.{Record}
-use Rattle.record.proofs.Formed.{placeAt}
+use Rattle.record.specs.Places.{placeAt}
+use Rattle.record.proofs.Choices.{either}
 use Rattle.gap.specs.Elapsed.{elapsedOf}
 use Rattle.gap.specs.declared.Elapsed.{Elapsed}
 use Rattle.gap.proofs.Moves.{Move, stands, expires, lost, goes-on, moves}
@@ -37,11 +38,6 @@ use Rattle.wrapper.specs.declared.Search.the-variants as search
 use Rattle.wrapper.specs.declared.Settled.{Settled}
 use Rattle.wrapper.proofs.Releasing.{along, release-is, passing, heldAt}
 use Rattle.demands.specs.Calls.{Sound}
-
--- what holds of either side of a choice
-pub either : {A : Type 0} (P : A → Type 0) (b : Bool) (x y : A) → P x → P y → P (cond b x y)
-either P true x y p q = p
-either P false x y p q = q
 
 -- a total and a reliable number of 32 bits
 abbrev pub Both : Total → Reliable → Type 0

@@ -7,9 +7,9 @@ use mathlib.Core.Path.{_≡_}
 use lib.Dec.{eqb}
 use lib.ListN.{length, replicate}
 use Rattle.counter.specs.Distance.{turn}
-use Rattle.octets.proofs.Numbers.{Octets}
+use Rattle.octets.specs.Octets.{Octets}
 use Rattle.record.specs.declared.Record.{Record}
-use Rattle.record.proofs.Formed.{placeAt}
+use Rattle.record.specs.Places.{placeAt}
 use Rattle.table.specs.Table.{tableFormed, recordAt}
 use Rattle.member.specs.Sizes.{tableSize, heldSize}
 use Rattle.member.specs.Messages.{Outcome, messageOutcome}

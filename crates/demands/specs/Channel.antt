@@ -29,7 +29,7 @@ use Rattle.joining.specs.Replies.{departure}
 use Rattle.joining.specs.declared.Decision.{Decision}
 use Rattle.table.specs.Table.{same, recordAt, blank}
 use Rattle.sending.specs.Sent.{sentOf, replyOf, eventOf, joinReplyOf}
-use Rattle.carry.specs.Carried.{Delivered, placeAt, heldAfter, deliveredBy}
+use Rattle.carry.specs.Carried.{Delivered, placeBegins, heldAfter, deliveredBy}
 use Rattle.asking.specs.Asking.{arrivedOf}
 use Rattle.member.specs.Sizes.{messageSizes, elapsedSizes, leaveSizes, tableSize, cidSize}
 use Rattle.member.specs.Elapsing.{longest, Passing, sentBy}
@@ -144,7 +144,7 @@ abbrev pub placesSize : ℕ
 placesSize = 4 * mostContents
 
 unfoldable pub channelAt : ℕ → State → Channel
-channelAt i s = record { at = recordAt (s .table) i; held = part (s .held) (placeAt i 0) placesSize }
+channelAt i s = record { at = recordAt (s .table) i; held = part (s .held) (placeBegins i 0) placesSize }
 
 abbrev pub toldGiven : Given → List Delivered → List ℕ → Told
 toldGiven (given.Refused number) delivered reply = refused number
