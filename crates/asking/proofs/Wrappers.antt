@@ -17,6 +17,7 @@ use Rattle.message.specs.declared.MessageRead.the-variants.{Read}
 use Rattle.message.proofs.Readable.{reliable-length, unreliable-length}
 use Rattle.message.proofs.Arms.{answered}
 use Rattle.message.proofs.Refused.{refused-exactly}
+use Rattle.record.proofs.Choices.{each-case}
 
 -- ---- which messages are wrappers
 
@@ -33,22 +34,22 @@ Wrapped v d (message.Nak m first last) = Unit {0}
 Wrapped v d (message.GetSessions cid) = Unit {0}
 
 module _ (v : ℕ) (d : List ℕ) where
-  either : (b : Bool) (x y : Message) → (b ≡ true → Wrapped v d x) → Wrapped v d y → Wrapped v d (cond b x y)
-  either true x y f g = f refl
-  either false x y f g = g
+  -- one kind of message, or the kinds after it
+  kind : (b : Bool) (x y : Message) → (b ≡ true → Wrapped v d x) → Wrapped v d y → Wrapped v d (cond b x y)
+  kind b x y f g = each-case (Wrapped v d) b x y f (λ e. g)
 
   none-fixed : Wrapped v d (fixedOf v d)
   unfolding fixedOf
   none-fixed =
-      either (eqb v joinRefuse) _ _ (λ e. tt)
-      (either (eqb v joinAccept) _ _ (λ e. tt)
-      (either (eqb v leaving) _ _ (λ e. tt) (either (eqb v ack) _ _ (λ e. tt) (either (eqb v nak) _ _ (λ e. tt) tt))))
+      kind (eqb v joinRefuse) _ _ (λ e. tt)
+      (kind (eqb v joinAccept) _ _ (λ e. tt)
+      (kind (eqb v leaving) _ _ (λ e. tt) (kind (eqb v ack) _ _ (λ e. tt) (kind (eqb v nak) _ _ (λ e. tt) tt))))
 
   wrapped : Wrapped v d (messageOf v d)
   unfolding messageOf
   wrapped =
-      either (eqb v reliableWrapper) _ _ (λ e. (eqb-true v reliableWrapper e, refl))
-      (either (eqb v unreliableWrapper) _ _ (λ e. (eqb-true v unreliableWrapper e, refl)) (either (eqb v join) _ _ (λ e. tt) none-fixed))
+      kind (eqb v reliableWrapper) _ _ (λ e. (eqb-true v reliableWrapper e, refl))
+      (kind (eqb v unreliableWrapper) _ _ (λ e. (eqb-true v unreliableWrapper e, refl)) (kind (eqb v join) _ _ (λ e. tt) none-fixed))
 
   -- ---- what is read
 

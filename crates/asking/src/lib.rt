@@ -9,12 +9,10 @@ use message::Message;
 use message::MessageRead;
 use message::Wrapper;
 use octets::u64_at;
+use record::MOST_CONTENTS;
 use record::Record;
 use table::Found;
 use wrapper::Arrived;
-
-// Wrapper contents are at most this many octets.
-const MOST: usize = 1454;
 
 // A wrapper's own fields; the rest of its data is its contents.
 const FIELDS: usize = 20;
@@ -62,7 +60,7 @@ fn wrapper_asks(table: [Record; 8], sender: Cid, reliably: bool, w: Wrapper, len
     let Found::At(at) = table::find(table, sender, w.channel) else {
         return Asked::Refused(6);
     };
-    if MOST < len {
+    if MOST_CONTENTS < len {
         return Asked::Refused(7);
     }
     Asked::Wrapper {

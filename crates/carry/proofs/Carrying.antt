@@ -10,9 +10,9 @@ use lib.ListN.{length, getD, set, take, drop, drop-of-length-le}
 use lib.Seq.{drop-cons, getD-take, length-take-le}
 use denote.Enum.Declared.{tagOf}
 use types.Run.{OneOf}
+use Rattle.record.specs.Places.{placeAt}
 use Rattle.record.specs.WellFormed.{mostContents}
 use Rattle.record.specs.declared.Place.{Place}
-use Rattle.wrapper.specs.Release.{noPlace}
 use Rattle.wrapper.specs.declared.Arrived.{Arrived}
 use Rattle.wrapper.specs.declared.Fate.{Fate}
 use Rattle.wrapper.specs.declared.Fate.the-variants.{Delivered, Held, Dropped}
@@ -20,14 +20,14 @@ use Rattle.wrapper.specs.declared.Plan.{Plan}
 use Rattle.wrapper.proofs.Fate.{the-type}
 use Rattle.octets.specs.Octets.{part, splice}
 use Rattle.carry.specs.Carried as carried
-use Rattle.carry.specs.Carried.{placeAt, heldAfter, atOnce, fromPlace, fromPlaces, deliveredBy, deliverFrom, noDeliveries, oneMore, listed}
+use Rattle.carry.specs.Carried.{placeBegins, heldAfter, atOnce, fromPlace, fromPlaces, deliveredBy, deliverFrom, noDeliveries, oneMore, listed}
 use Rattle.carry.specs.declared.Deliveries.{Deliveries}
 use Rattle.carry.proofs.Appended.{listed-append, listed-count, deliver-append}
 
 -- ---- where a place ends
 
-pub place-ends : (i j n : ℕ) → i < 8 → j < 4 → n ≤ mostContents → placeAt i j + n ≤ 46528
-unfolding placeAt
+pub place-ends : (i j n : ℕ) → i < 8 → j < 4 → n ≤ mostContents → placeBegins i j + n ≤ 46528
+unfolding placeBegins
 place-ends i j n hi hj hn = omega arith
 
 -- ---- the fates that a function lets pass
@@ -52,7 +52,7 @@ module _ (held : List ℕ) (i : ℕ) (ps : List Place) (order : List ℕ) (n : �
 
   -- the place of this turn, and the rest
   pub left-more : (k : ℕ) → k < n → n ≤ length order
-      → left k ≡ fromPlace held i (getD order k 0) (getD ps (getD order k 0) noPlace) ∷ left (k + 1)
+      → left k ≡ fromPlace held i (getD order k 0) (placeAt ps (getD order k 0)) ∷ left (k + 1)
   left-more k h l =
       let m : k < length (take n order) = omega (arith, length-take-le n order l) in
       rw (drop-cons (take n order) k 0 m, getD-take n order k 0 h, add-one k)
@@ -65,7 +65,7 @@ module _ (held : List ℕ) (i : ℕ) (ps : List Place) (order : List ℕ) (n : �
   -- one turn leaves the answer and the room that are reached in the end
   module _ (k : ℕ) (h : k < n) (l : n ≤ length order) where
     abbrev this : carried.Delivered
-    this = fromPlace held i (getD order k 0) (getD ps (getD order k 0) noPlace)
+    this = fromPlace held i (getD order k 0) (placeAt ps (getD order k 0))
 
     pub listed-turn : (d after : Deliveries) → after ≡ oneMore d this → listed after (left (k + 1)) ≡ listed d (left k)
     unfolding listed
@@ -79,7 +79,7 @@ module _ (held : List ℕ) (i : ℕ) (ps : List Place) (order : List ℕ) (n : �
 -- ---- one delivery
 
 -- a held one copied is one cell written
-pub cell-written : (held : List ℕ) (i j at k : ℕ) (p : Place) (room after : List ℕ) → at ≡ placeAt i j
+pub cell-written : (held : List ℕ) (i j at k : ℕ) (p : Place) (room after : List ℕ) → at ≡ placeBegins i j
     → after ≡ splice room (k * mostContents) (part held at (p .len)) → after ≡ deliverFrom k (fromPlace held i j p ∷ []) room
 unfolding deliverFrom
 cell-written held i j at k p room after e f = rw (f, e)

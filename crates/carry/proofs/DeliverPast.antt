@@ -9,8 +9,8 @@ use Rattle.octets.specs.Octets.{part, splice}
 use Rattle.octets.proofs.Writes.{length-splice, part-splice}
 use Rattle.record.specs.WellFormed.{mostContents}
 use Rattle.carry.specs.Carried.{Delivered, deliverFrom}
+use Rattle.carry.specs.Whole.{Each, Whole}
 use Rattle.carry.proofs.Beside.{part-beside, octet-beside}
-use Rattle.carry.proofs.DeliveredLength.{Each, Whole}
 
 -- where the cell of delivery k begins
 abbrev pub cellAt : ℕ → ℕ

@@ -1,5 +1,5 @@
 -- The contents of everything that is delivered are as long as its delivery says and fit a cell, and there are cells for all. Assumes nothing.
-use Prim.{Unit, tt}
+use Prim.{tt}
 use Prim.Native.Nat.{ℕ, zero, suc, _<_, _≤_}
 use mathlib.Core.List.{List, [], _∷_, _++_, map}
 use mathlib.Core.Path.{_≡_, sym}
@@ -7,23 +7,20 @@ use native.Mathlib.Omega.{arith}
 use lib.ListN.{length, getD, take, length-append, length-take, length-map}
 use lib.Seq.{getD-take}
 use Rattle.octets.proofs.Numbers.{length-part}
+use Rattle.record.specs.Places.{placeAt}
 use Rattle.record.specs.WellFormed.{mostContents}
 use Rattle.record.specs.declared.Place.{Place}
-use Rattle.wrapper.specs.Release.{noPlace}
 use Rattle.wrapper.specs.declared.Arrived.{Arrived}
 use Rattle.wrapper.specs.declared.Fate.{Fate}
 use Rattle.wrapper.specs.declared.Fate.the-variants as fate
 use Rattle.wrapper.specs.declared.Plan.{Plan}
-use Rattle.carry.specs.Carried.{placeAt, heldAfter, Delivered, atOnce, fromPlace, deliveredBy}
+use Rattle.carry.specs.Carried.{placeBegins, heldAfter, Delivered, atOnce, fromPlace, deliveredBy}
+use Rattle.carry.specs.Whole.{Each, Whole}
 use Rattle.carry.specs.Fits.{Fits}
 use Rattle.carry.proofs.Carrying.{place-ends, at-once-most}
 use Rattle.carry.proofs.OwnPlaces.{held-length}
 
 -- ---- of each element of a list
-
-abbrev pub Each : {A : Type 0} (P : A → Type 0) → List A → Type 0
-Each P [] = Unit {0}
-Each P (x ∷ xs) = P x × Each P xs
 
 pub each-append : {A : Type 0} (P : A → Type 0) (xs ys : List A) → Each P xs → Each P ys → Each P (xs ++ ys)
 each-append P [] ys h g = g
@@ -48,10 +45,6 @@ of-first P n xs h k l =
 
 -- ---- the deliveries
 
--- contents as long as is said, that fit a cell
-abbrev pub Whole : Delivered → Type 0
-Whole d = (length (d .contents) ≡ d .delivery .len) × (d .delivery .len ≤ mostContents)
-
 module _ (held : List ℕ) (i : ℕ) (w : Arrived) (c : List ℕ) (p : Plan) (fits : Fits p) (room : length held ≡ 46528) (hi : i < 8)
     (said : w .len ≡ length c) (most : length c ≤ mostContents) where
   at-once-whole : (f : Fate) → Each Whole (atOnce f w c)
@@ -65,17 +58,17 @@ module _ (held : List ℕ) (i : ℕ) (w : Arrived) (c : List ℕ) (p : Plan) (fi
   place-whole : (j : ℕ) (q : Place) → j < 4 → q .len ≤ mostContents → Whole (fromPlace after i j q)
   place-whole j q hj hq =
       let same = held-length i (p .fate) c held hi (fits .place) most room in
-      (length-part after (placeAt i j) (q .len) (omega (arith, place-ends i j (q .len) hi hj hq)), hq)
+      (length-part after (placeBegins i j) (q .len) (omega (arith, place-ends i j (q .len) hi hj hq)), hq)
 
   pub delivered-length : Each Whole (deliveredBy held i w c p)
   unfolding deliveredBy
   delivered-length =
       each-append Whole (atOnce (p .fate) w c) _ (at-once-whole (p .fate))
       (each-map Whole _ 0 (take (p .count) (p .order))
-      (of-first (λ j. Whole (fromPlace after i j (getD (p .after .places) j noPlace))) (p .count) (p .order)
+      (of-first (λ j. Whole (fromPlace after i j (placeAt (p .after .places) j))) (p .count) (p .order)
       (λ k l.
       let j = getD (p .order) k 0 in
-      place-whole j (getD (p .after .places) j noPlace) (fits .order k l) (fits .contents k l))))
+      place-whole j (placeAt (p .after .places) j) (fits .order k l) (fits .contents k l))))
 
 -- no more are delivered than there are cells
 pub delivered-few : (held : List ℕ) (i : ℕ) (w : Arrived) (c : List ℕ) (p : Plan) → Fits p → length (deliveredBy held i w c p) ≤ 5

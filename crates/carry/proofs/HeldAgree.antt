@@ -9,18 +9,18 @@ use native.Mathlib.Omega.{arith}
 use lib.ListN.{length, getD, take}
 use Rattle.octets.specs.Octets.{part}
 use Rattle.octets.proofs.Writes.{part-splice}
+use Rattle.record.specs.Places.{placeAt}
 use Rattle.record.specs.WellFormed.{mostContents, wellFormed}
 use Rattle.record.specs.declared.Place.{Place}
 use Rattle.record.specs.declared.Record.{Record}
 use Rattle.record.proofs.Formed.{formed}
 use Rattle.wrapper.specs.Judge.{heard}
 use Rattle.wrapper.specs.Hold.{placed}
-use Rattle.wrapper.specs.Release.{noPlace}
 use Rattle.wrapper.specs.Taken.{taken}
+use Rattle.wrapper.specs.Since.{Freed}
 use Rattle.wrapper.specs.declared.Arrived.{Arrived}
 use Rattle.wrapper.specs.declared.Fate.the-variants.{Held}
-use Rattle.wrapper.proofs.ReleaseIsDone.{Freed}
-use Rattle.carry.specs.Carried.{placeAt, heldAfter, Delivered, atOnce, fromPlaces, deliveredBy}
+use Rattle.carry.specs.Carried.{placeBegins, heldAfter, Delivered, atOnce, fromPlaces, deliveredBy}
 use Rattle.carry.proofs.Carrying.{place-ends}
 use Rattle.carry.proofs.PlanFits.{Kept, Taking, taking}
 use Rattle.carry.proofs.DeliveredLength.{of-first}
@@ -28,11 +28,11 @@ use Rattle.carry.proofs.OwnPlaces.{other-place}
 
 -- the held octets h and g agree in place j of record i, as far as its contents go
 abbrev pub AgreeAt : ℕ → List Place → List ℕ → List ℕ → ℕ → Type 0
-AgreeAt i ps h g j = part h (placeAt i j) (getD ps j noPlace .len) ≡ part g (placeAt i j) (getD ps j noPlace .len)
+AgreeAt i ps h g j = part h (placeBegins i j) (placeAt ps j .len) ≡ part g (placeBegins i j) (placeAt ps j .len)
 
 -- they agree in the used places of record i
 abbrev pub Agree : ℕ → List Place → List ℕ → List ℕ → Type 0
-Agree i ps h g = (j : ℕ) → getD ps j noPlace .used ≡ true → AgreeAt i ps h g j
+Agree i ps h g = (j : ℕ) → placeAt ps j .used ≡ true → AgreeAt i ps h g j
 
 from-agree : (h g : List ℕ) (i : ℕ) (ps : List Place) (order : List ℕ)
     → ((k : ℕ) → k < length order → AgreeAt i ps h g (getD order k 0))
@@ -67,13 +67,13 @@ module _
     t = taking r w four
 
     -- what was written into a place is there
-    written : (s : List ℕ) → length s ≡ 46528 → (j n : ℕ) → n ≡ length c → taken r w .fate ≡ Held j → part (after s) (placeAt i j) n ≡ c
+    written : (s : List ℕ) → length s ≡ 46528 → (j n : ℕ) → n ≡ length c → taken r w .fate ≡ Held j → part (after s) (placeBegins i j) n ≡ c
     written s l j n m e =
-        rw (m, e) (part-splice s (placeAt i j) c (omega (arith, place-ends i j (length c) hi (t .below j e) most)))
+        rw (m, e) (part-splice s (placeBegins i j) c (omega (arith, place-ends i j (length c) hi (t .below j e) most)))
 
     -- a place that the wrapper is not held in is as it was
     stays : (s : List ℕ) → length s ≡ 46528 → (j n : ℕ) → n ≤ mostContents → taken r w .fate ≢ Held j
-        → part (after s) (placeAt i j) n ≡ part s (placeAt i j) n
+        → part (after s) (placeBegins i j) n ≡ part s (placeBegins i j) n
     stays s l j n m z =
         other-place i (taken r w .fate) c s hi (t .below) most l i j n m
         (λ k e q.
@@ -81,7 +81,7 @@ module _
         z (rw same e))
 
     -- so in the places that are used after step 3 the octets agree
-    kept-agree : (j : ℕ) → getD held j noPlace .used ≡ true → AgreeAt i held (after h) (after g) j
+    kept-agree : (j : ℕ) → placeAt held j .used ≡ true → AgreeAt i held (after h) (after g) j
     kept-agree j u = by (t .kept j u)
       where
         by : Kept r w (taken r w .fate) held j → AgreeAt i held (after h) (after g) j
@@ -105,8 +105,8 @@ module _
     pub agree-after : Agree i (taken r w .after .places) (after h) (after g)
     agree-after j u = by (t .each j)
       where
-        by : (getD (taken r w .after .places) j noPlace ≡ getD held j noPlace)
-            ⊎ Freed (getD held j noPlace) (getD (taken r w .after .places) j noPlace)
+        by : (placeAt (taken r w .after .places) j ≡ placeAt held j)
+            ⊎ Freed (placeAt held j) (placeAt (taken r w .after .places) j)
             → AgreeAt i (taken r w .after .places) (after h) (after g) j
         by (inl e) = rw e (kept-agree j (rw e at u))
         by (inr f) = absurd (false≢true (rw (f .1) at u))

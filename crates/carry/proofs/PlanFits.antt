@@ -1,27 +1,31 @@
 -- Every plan of a well-formed record can be carried out: the places that it names are of the record's four, and what it delivers from them
 -- fits a cell. And what steps 3 to 6 make of the places, which the laws on held octets go by. Assumes nothing.
-use Prim.Native.Nat.{ℕ, zero, suc, _+_, _<_, _≤_}
-use mathlib.Core.Bool.{Bool, true, false, cond, not, _&&_, false≢true}
-use mathlib.Core.List.{List, [], _∷_}
+use Prim.Native.Nat.{ℕ, _<_, _≤_}
+use mathlib.Core.Bool.{Bool, true, false, cond, not, _&&_}
+use mathlib.Core.List.{List}
 use mathlib.Core.Logic.{_≢_, _⊎_, inl, inr}
 use mathlib.Core.Path.{_≡_, refl, ap, _∙_}
 use native.Mathlib.Omega.{arith}
 use lib.ListN.{length, getD, set, length-set}
 use Rattle.counter.specs.declared.Reliable.{Reliable}
+use Rattle.record.specs.Places.{noPlace, placeAt}
 use Rattle.record.specs.Reasons.{lostSequence}
 use Rattle.record.specs.WellFormed.{mostContents, closed, wellFormed}
 use Rattle.record.specs.With.{freed, withNumbers, withGap, withAcked}
 use Rattle.record.specs.declared.Gap.the-variants as gap
 use Rattle.record.specs.declared.Place.{Place}
 use Rattle.record.specs.declared.Record.{Record}
+use Rattle.record.proofs.Choices.{either, never}
+use Rattle.record.proofs.Lowest.{lowest-is}
+use Rattle.record.proofs.Stored.{Stored, used-below, used-stored}
 use Rattle.record.proofs.Formed.{formed}
 use Rattle.gap.specs.Standoff.{standoffOf}
-use Rattle.gap.proofs.Moves.{never}
 use Rattle.wrapper.specs.Judge.{judged, heard}
-use Rattle.wrapper.specs.Hold.{nextOne, holds, lowestFree, placeFor, heldAs, putIn, placed}
-use Rattle.wrapper.specs.Release.{noPlace, releaseAt, released}
+use Rattle.wrapper.specs.Hold.{nextOne, holds, isFree, lowestFree, placeFor, heldAs, putIn, placed}
+use Rattle.wrapper.specs.Release.{releaseAt, released}
 use Rattle.wrapper.specs.Settle.{lost, begun, gapped, asked, spared, acknowledged, settled}
 use Rattle.wrapper.specs.Taken.{taken, steppedBy, stepped}
+use Rattle.wrapper.specs.Since.{Freed, Since}
 use Rattle.wrapper.specs.declared.Arrived.{Arrived}
 use Rattle.wrapper.specs.declared.Fate.{Fate}
 use Rattle.wrapper.specs.declared.Fate.the-variants.{Delivered, Held}
@@ -35,69 +39,30 @@ use Rattle.wrapper.specs.declared.Search.{Search}
 use Rattle.wrapper.specs.declared.Search.the-variants.{At, Nowhere}
 use Rattle.wrapper.specs.declared.Settled.{Settled}
 use Rattle.wrapper.proofs.Releasing.{release-counts, along}
-use Rattle.wrapper.proofs.ReleaseIsDone.{Freed, Since, since-start, since-more, count-below}
+use Rattle.wrapper.proofs.Holding.{tells}
+use Rattle.wrapper.proofs.ReleaseIsDone.{since-start, since-more, count-below}
 use Rattle.carry.specs.Fits.{Fits}
-
-abbrev at : List Place → ℕ → Place
-at ps j = getD ps j noPlace
-
--- a used place is one of the places
-pub used-below : (ps : List Place) (j : ℕ) → at ps j .used ≡ true → j < length ps
-used-below [] j u = absurd (false≢true u)
-used-below (p ∷ ps) zero u = omega arith
-used-below (p ∷ ps) (suc j) u = omega (arith, used-below ps j u)
-
--- what holds of either side of a choice
-either : {A : Type 0} (P : A → Type 0) (b : Bool) (x y : A) → P x → P y → P (cond b x y)
-either P true x y p q = p
-either P false x y p q = q
 
 -- ---- step 3
 
--- a used place after one was set: that one, or another as it was
-set-at : (ps : List Place) (i : ℕ) (q : Place) (j : ℕ) → at (set ps i q) j .used ≡ true
-    → ((i ≡ j) × (at (set ps i q) j ≡ q)) ⊎ ((i ≢ j) × (at (set ps i q) j ≡ at ps j))
-set-at [] i q j u = absurd (false≢true u)
-set-at (p ∷ ps) zero q zero u = inl (refl, refl)
-set-at (p ∷ ps) zero q (suc j) u = inr (λ e. omega arith, refl)
-set-at (p ∷ ps) (suc i) q zero u = inr (λ e. omega arith, refl)
-set-at (p ∷ ps) (suc i) q (suc j) u = by (set-at ps i q j u)
-  where
-    by : ((i ≡ j) × (at (set ps i q) j ≡ q)) ⊎ ((i ≢ j) × (at (set ps i q) j ≡ at ps j))
-        → ((suc i ≡ suc j) × (at (set ps i q) j ≡ q)) ⊎ ((suc i ≢ suc j) × (at (set ps i q) j ≡ at ps j))
-    by (inl a) = inl (ap suc (a .0), a .1)
-    by (inr a) = inr (λ e. a .0 (omega arith), a .1)
-
-lowest-below : (k : ℕ) (ps : List Place) (i : ℕ) → lowestFree k ps ≡ At i → i < k + length ps
-unfolding lowestFree
-lowest-below k [] i e = never (cc)
-lowest-below k (p ∷ ps) i e = by (p .used) e (lowest-below (k + 1) ps i)
-  where
-    by : (b : Bool) → cond b (lowestFree (k + 1) ps) (At k) ≡ At i → (lowestFree (k + 1) ps ≡ At i → i < k + 1 + length ps)
-        → i < k + suc (length ps)
-    by true f later = omega (arith, later f)
-    by false f later =
-        let same : k ≡ i = cc in
-        omega arith
-
 place-below : (w : Arrived) (ps : List Place) (i : ℕ) → placeFor w ps ≡ At i → i < length ps
-unfolding placeFor
+unfolding placeFor lowestFree
 place-below w ps i e = by (w .reliably) (holds (w .reliable) ps) e
   where
     by : (s h : Bool) → cond s (cond h Nowhere (lowestFree 0 ps)) Nowhere ≡ At i → i < length ps
     by true true q = never (cc)
-    by true false q = omega (arith, lowest-below 0 ps i q)
+    by true false q = lowest-is isFree At Nowhere tells noPlace ps i q .0
     by false h q = never (cc)
 
 -- a place that is used after step 3: the wrapper is held in it, or it is as it was and the wrapper is not held in it
 abbrev pub Kept : Record → Arrived → Fate → List Place → ℕ → Type 0
-Kept r w f ps j = ((f ≡ Held j) × (at ps j ≡ heldAs w)) ⊎ ((f ≢ Held j) × (at ps j ≡ at (r .places) j))
+Kept r w f ps j = ((f ≡ Held j) × (placeAt ps j ≡ heldAs w)) ⊎ ((f ≢ Held j) × (placeAt ps j ≡ placeAt (r .places) j))
 
 -- what step 3 leaves: as many places, the wrapper held in one of them if anywhere, and all else as it was
 pub record Placing (r : Record) (w : Arrived) (p : Placed) : Type 0 where
   pub places : length (p .after .places) ≡ length (r .places)
   pub below : (j : ℕ) → p .fate ≡ Held j → j < length (r .places)
-  pub kept : (j : ℕ) → at (p .after .places) j .used ≡ true → Kept r w (p .fate) (p .after .places) j
+  pub kept : (j : ℕ) → placeAt (p .after .places) j .used ≡ true → Kept r w (p .fate) (p .after .places) j
 
 module _ (r : Record) (w : Arrived) where
   next-placing : Placing r w (record { after = withNumbers r (w .total) (w .reliable); fate = Delivered })
@@ -110,11 +75,10 @@ module _ (r : Record) (w : Arrived) where
         below = λ j g.
             let same : i ≡ j = cc in
             omega (arith, place-below w (r .places) i e);
-        kept = λ j u. by j (set-at (r .places) i (heldAs w) j u);
+        kept = λ j u. by j (used-stored (r .places) i (heldAs w) j u);
       }
     where
-      by : (j : ℕ) → ((i ≡ j) × (at (set (r .places) i (heldAs w)) j ≡ heldAs w)) ⊎ ((i ≢ j) × (at (set (r .places) i (heldAs w)) j ≡ at (r .places) j))
-          → Kept r w (Held i) (set (r .places) i (heldAs w)) j
+      by : (j : ℕ) → Stored noPlace (r .places) i (heldAs w) j → Kept r w (Held i) (set (r .places) i (heldAs w)) j
       by j (inl a) = inl (ap Held (a .0), a .1)
       by j (inr a) = inr (λ e. a .0 (cc), a .1)
   put-placing Nowhere e = record { places = refl; below = λ j g. never (cc); kept = λ j u. inr (λ g. never (cc), refl) }
@@ -186,9 +150,9 @@ pub record Taking (r : Record) (w : Arrived) (held : List Place) (p : Plan) : Ty
   pub few : p .count ≤ 4
   pub below : (j : ℕ) → p .fate ≡ Held j → j < 4
   pub four : length held ≡ 4
-  pub kept : (j : ℕ) → at held j .used ≡ true → Kept r w (p .fate) held j
-  pub ordered : (k : ℕ) → k < p .count → Freed (at held (getD (p .order) k 0)) (at (p .after .places) (getD (p .order) k 0))
-  pub each : (j : ℕ) → (at (p .after .places) j ≡ at held j) ⊎ Freed (at held j) (at (p .after .places) j)
+  pub kept : (j : ℕ) → placeAt held j .used ≡ true → Kept r w (p .fate) held j
+  pub ordered : (k : ℕ) → k < p .count → Freed (placeAt held (getD (p .order) k 0)) (placeAt (p .after .places) (getD (p .order) k 0))
+  pub each : (j : ℕ) → (placeAt (p .after .places) j ≡ placeAt held j) ⊎ Freed (placeAt held j) (placeAt (p .after .places) j)
 
 pub taking : (r : Record) (w : Arrived) → length (r .places) ≡ 4
     → Taking r w (placed (heard r (w .reliable)) w .after .places) (taken r w)
@@ -210,7 +174,7 @@ taking r w four =
 
 -- a place that is used after step 3 holds contents that fit
 used-fits : (r : Record) (w : Arrived) → r .used ≡ true → wellFormed r ≡ true → w .len ≤ mostContents → (f : Fate) (ps : List Place) (j : ℕ)
-    → at ps j .used ≡ true → Kept r w f ps j → at ps j .len ≤ mostContents
+    → placeAt ps j .used ≡ true → Kept r w f ps j → placeAt ps j .len ≤ mostContents
 used-fits r w used well fits f ps j u (inl a) = rw (a .1) fits
 used-fits r w used well fits f ps j u (inr a) = rw (a .1) (formed r well used .held j (rw (a .1) at u) .contents)
 

@@ -3,11 +3,11 @@
 use Prim.Native.Nat.{ℕ, _+_, _*_}
 use mathlib.Core.Bool.{true, false}
 use mathlib.Core.List.{List, [], _∷_, _++_, map}
-use lib.ListN.{getD, set, take, replicate}
+use lib.ListN.{set, take, replicate}
 use Rattle.octets.specs.Octets.{part, splice}
+use Rattle.record.specs.Places.{placeAt}
 use Rattle.record.specs.WellFormed.{mostContents}
 use Rattle.record.specs.declared.Place.{Place}
-use Rattle.wrapper.specs.Release.{noPlace}
 use Rattle.wrapper.specs.declared.Arrived.{Arrived}
 use Rattle.wrapper.specs.declared.Fate.{Fate}
 use Rattle.wrapper.specs.declared.Fate.the-variants as fate
@@ -18,13 +18,13 @@ use Rattle.carry.specs.declared.Deliveries.{Deliveries}
 -- ---- as values
 
 -- where place j of record i begins: each record has four places of 1,454 octets
-unfoldable pub placeAt : ℕ → ℕ → ℕ
-placeAt i j = (i * 4 + j) * mostContents
+unfoldable pub placeBegins : ℕ → ℕ → ℕ
+placeBegins i j = (i * 4 + j) * mostContents
 
 -- the held octets after step 3: the contents c of a wrapper that is held stand in its place
 abbrev pub heldAfter : ℕ → Fate → List ℕ → List ℕ → List ℕ
 heldAfter i fate.Delivered c held = held
-heldAfter i (fate.Held j) c held = splice held (placeAt i j) c
+heldAfter i (fate.Held j) c held = splice held (placeBegins i j) c
 heldAfter i fate.Dropped c held = held
 
 -- a delivered wrapper: what is said of it, and its contents
@@ -48,12 +48,12 @@ abbrev pub fromPlace : List ℕ → ℕ → ℕ → Place → Delivered
 fromPlace held i j p =
     record {
       delivery = record { reliably = true; total = p .total; reliable = p .reliable; len = p .len };
-      contents = part held (placeAt i j) (p .len);
+      contents = part held (placeBegins i j) (p .len);
     }
 
 -- the held ones of record i that step 4 delivers, in its order
 abbrev pub fromPlaces : List ℕ → ℕ → List Place → List ℕ → List Delivered
-fromPlaces held i ps order = map (λ j. fromPlace held i j (getD ps j noPlace)) order
+fromPlaces held i ps order = map (λ j. fromPlace held i j (placeAt ps j)) order
 
 -- all that the step of record i by the wrapper w delivers. Held contents are read as step 3 left them, since step 4 comes after it
 unfoldable pub deliveredBy : List ℕ → ℕ → Arrived → List ℕ → Plan → List Delivered

@@ -2,8 +2,8 @@
 use Prim.Native.Nat.{ℕ, _<_, _≤_}
 use mathlib.Core.Path.{_≡_}
 use lib.ListN.{getD}
+use Rattle.record.specs.Places.{placeAt}
 use Rattle.record.specs.WellFormed.{mostContents}
-use Rattle.wrapper.specs.Release.{noPlace}
 use Rattle.wrapper.specs.declared.Fate.the-variants as fate
 use Rattle.wrapper.specs.declared.Plan.{Plan}
 
@@ -12,4 +12,4 @@ pub record Fits (p : Plan) : Type 0 where
   pub count : p .count ≤ 4
   pub place : (j : ℕ) → p .fate ≡ fate.Held j → j < 4
   pub order : (k : ℕ) → k < p .count → getD (p .order) k 0 < 4
-  pub contents : (k : ℕ) → k < p .count → getD (p .after .places) (getD (p .order) k 0) noPlace .len ≤ mostContents
+  pub contents : (k : ℕ) → k < p .count → placeAt (p .after .places) (getD (p .order) k 0) .len ≤ mostContents

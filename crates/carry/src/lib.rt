@@ -3,21 +3,18 @@ ghost use mathlib.Core.Path.{_≡_};
 ghost use mathlib.Core.List.{[], _∷_};
 ghost use Prim.Native.Nat.{ℕ, _+_, _*_, _<_, _≤_};
 ghost use lib.ListN.{length, take};
-ghost use Rattle.octets.specs.Octets.{splice};
 ghost use Rattle.record.specs.WellFormed.{mostContents};
-ghost use Rattle.carry.specs.Carried.{placeAt, heldAfter, atOnce, fromPlace, fromPlaces, deliveredBy, deliverFrom, noDeliveries, oneMore, listed};
+ghost use Rattle.carry.specs.Carried.{placeBegins, heldAfter, atOnce, fromPlace, fromPlaces, deliveredBy, deliverFrom, noDeliveries, oneMore, listed};
 ghost use Rattle.carry.specs.Fits.{Fits};
 use counter::Reliable;
 use counter::Total;
 use octets::copy_into;
 use octets::copy_part;
+use record::MOST_CONTENTS;
 use record::Place;
 use wrapper::Arrived;
 use wrapper::Fate;
 use wrapper::Plan;
-
-// A place and a delivery cell have this many octets.
-const MOST: usize = 1454;
 
 // A delivered wrapper. Its contents are the first `len` octets of the delivery cell of the same turn.
 pub struct Delivery {
@@ -50,11 +47,11 @@ pub fn no_deliveries() -> Deliveries
 }
 
 // Where place j of record i lies in the held octets.
-fn place_at(i: usize, j: usize) -> usize
+fn place_begins(i: usize, j: usize) -> usize
     requires { ⌜ (i < 8) × (j < 4) ⌝ }
-    ensures { λ r. ⌜ r ≡ placeAt i j ⌝ }
+    ensures { λ r. ⌜ r ≡ placeBegins i j ⌝ }
 {
-    (i * 4 + j) * MOST
+    (i * 4 + j) * MOST_CONTENTS
 }
 
 // A wrapper that is held: its contents are copied into its place of record i.
@@ -66,7 +63,7 @@ fn put_held(held: &mut [u8], i: usize, fate: Fate, contents: &[u8])
     let Fate::Held(j) = fate else {
         return;
     };
-    copy_into(held, place_at(i, j), contents);
+    copy_into(held, place_begins(i, j), contents);
 }
 
 // The wrapper itself, if it is delivered at once, is the first delivery.
@@ -108,7 +105,13 @@ fn deliver_place(
     let reliable = p.reliable;
     let mut d = before;
     let n = d.count;
-    copy_part(deliver, n * MOST, held, place_at(i, j), p.len as usize);
+    copy_part(
+        deliver,
+        n * MOST_CONTENTS,
+        held,
+        place_begins(i, j),
+        p.len as usize,
+    );
     d.each[n] = Delivery {
         reliably: true,
         total,

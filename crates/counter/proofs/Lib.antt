@@ -1,4 +1,5 @@
--- What belongs to no one function: the machine's numbers, the sentence on the distance, and the facts that other crates use.
+-- What belongs to no one function: the machine's numbers and tests, the sentence on the distance, and the facts that other crates use.
 pub mod Machine
+pub mod Signed
 pub mod TheOne
 pub mod Distances

@@ -1,5 +1,5 @@
 -- Demand 2 of the order, call by call: whatever a message call, an elapsed call or a leave call answers, the octets that it writes as its reply, or into a
--- record's cell, are read as exactly the messages that its answer says, and a refusal writes none (`message-replies`, `elapsed-sends`, `leave-replies`).
+-- record's cell, are read as exactly the messages that its answer says, and a joinRefuseOf writes none (`message-replies`, `elapsed-sends`, `leave-replies`).
 -- All sizes lent and all tables are meant, refused ones too. Assumes what the machine's types say: the counters and names of the table's records have the
 -- widths of their fields (`Wide`), a CID and data are octets, and a reciprocal channel number has two octets. The example at the end meets that.
 use Prim.Native.Nat.{ℕ, _<_}
@@ -9,8 +9,7 @@ use mathlib.Core.Path.{_≡_, refl, sym, subst}
 use lib.Dec.{ltb, eqb, lit<}
 use lib.ListN.{length, replicate, List·getD-map}
 use borrow.Author.Tests.{eqb-true}
-use Rattle.octets.proofs.Numbers.{Octets as Bytes}
-use Rattle.octets.specs.Octets.{number}
+use Rattle.octets.specs.Octets.{number, Octets as Bytes}
 use Rattle.message.specs.Lengths.{reliableWrapper}
 use Rattle.message.specs.Layouts.{cidAt, wrapperOf, joinOf, reliable}
 use Rattle.message.specs.Reading.{contents}
@@ -49,7 +48,7 @@ use Rattle.demands.specs.Channel.{entryAt}
 use Rattle.demands.specs.ReadBack.{ReadFrom, replyMeans, eventMeans, givenMeans, leaveMeans, FitTerms, FitAsked, FitExisting, Wide}
 use Rattle.demands.proofs.Lemmas.Asks as asks
 use Rattle.demands.proofs.Lemmas.Asks.{Asks}
-use Rattle.demands.proofs.Lemmas.Sounds.{either}
+use Rattle.record.proofs.Choices.{either}
 use Rattle.demands.proofs.Lemmas.Brought.{wrapper-says}
 use Rattle.demands.proofs.Lemmas.Sample as sample
 use Rattle.demands.proofs.RepliesReadBack.{none-read, step-reply-read, elapsed-read, leave-read, decided-read, join-fits, existing-fits, terms-fit}

@@ -17,6 +17,7 @@ use Rattle.message.specs.Lengths.{look, lengthOf}
 use Rattle.message.specs.Layouts.{total, reliable, cidAt, wrapperOf}
 use Rattle.message.specs.Reading.{readable, contents}
 use Rattle.message.specs.declared.Cid.{Cid}
+use Rattle.record.specs.Places.{noPlace}
 use Rattle.record.specs.Legal.{legalNames, legalParameters}
 use Rattle.record.specs.Profile.{minExpiry, nakTimeoutFactor, nakTimeout, maxRetries}
 use Rattle.record.specs.WellFormed.{heldRight, apart, apartFrom, heldApart, heldAllRight, closed, gapRight, termsRight, wellFormed}
@@ -24,6 +25,7 @@ use Rattle.record.specs.declared.Gap.{Gap}
 use Rattle.record.specs.declared.Gap.the-variants as gap
 use Rattle.record.specs.declared.Record.{Record}
 use Rattle.record.specs.declared.Terms.{Terms}
+use Rattle.record.proofs.Profile.{some-retries}
 use Rattle.record.proofs.Formed.{Phase, formed, quiet-exactly}
 use Rattle.gap.specs.Standoff.{standoffOf}
 use Rattle.gap.specs.declared.Elapsed.{Elapsed}
@@ -36,7 +38,7 @@ use Rattle.wrapper.specs.Release.{nextHeld, releaseFrom, released}
 use Rattle.wrapper.specs.Settle as settle
 use Rattle.wrapper.specs.Settle.{begun, gapped, asked, spared, acknowledged, settled}
 use Rattle.wrapper.specs.Taken.{taken, stepped}
-use Rattle.table.specs.Table.{same, named, differs, tableFormed, freshPlace}
+use Rattle.table.specs.Table.{same, named, differs, tableFormed}
 use Rattle.table.proofs.Tables as tables
 use Rattle.member.specs.Sizes.{tableSize, messageSizes, elapsedSizes}
 use Rattle.member.specs.Elapsing.{longest}
@@ -139,10 +141,6 @@ one-falls h (passes ms) l well before after =
 one-falls h (leaves reason) l well before after = absurd (false≢true (sym after))
 
 -- ---- how much it has at first
-
-some-retries : 0 < maxRetries
-unfolding maxRetries
-some-retries = lit< tt
 
 at-first : (t : Terms) (time : ℕ) → time ≤ t .maxwait → leftOf t (gap.Standoff time 0) ≤ bound t
 unfolding bound
@@ -249,7 +247,7 @@ quietly =
       acked = reliable 10;
       idle = 0;
       gap = gap.Quiet;
-      places = replicate 4 freshPlace;
+      places = replicate 4 noPlace;
     }
 
 abbrev before : State

@@ -36,16 +36,17 @@ use Rattle.record.specs.declared.Place.{Place}
 use Rattle.record.specs.declared.Record.{Record}
 use Rattle.gap.specs.Elapsed.{elapsedOf}
 use Rattle.gap.specs.declared.Elapsed.{Elapsed}
-use Rattle.gap.proofs.Moves.{never, Move, stands, expires, lost, goes-on, moves}
+use Rattle.gap.proofs.Moves.{Move, stands, expires, lost, goes-on, moves}
 use Rattle.wrapper.specs.Judge.{heard}
 use Rattle.wrapper.specs.Hold.{placed}
-use Rattle.wrapper.specs.Release.{noPlace}
+use Rattle.record.specs.Places.{noPlace}
 use Rattle.wrapper.specs.Taken.{taken, stepped}
 use Rattle.wrapper.specs.declared.Arrived.{Arrived}
 use Rattle.wrapper.specs.declared.Fate.{Fate}
 use Rattle.wrapper.specs.declared.Fate.the-variants as fate
-use Rattle.wrapper.proofs.InTurn as turns
-use Rattle.wrapper.proofs.ReleaseIsDone.{Freed}
+use Rattle.wrapper.specs.InTurn as turns
+use Rattle.wrapper.proofs.InTurn.{in-turn}
+use Rattle.wrapper.specs.Since.{Freed}
 use Rattle.joining.specs.Joining.{legalBlock, legal, decideNew, decided, newRecord}
 use Rattle.joining.specs.declared.Decision.{Decision}
 use Rattle.joining.specs.declared.Decision.the-variants as decision
@@ -70,7 +71,7 @@ use Rattle.demands.proofs.Lemmas.Running.{own-each, along}
 use Rattle.demands.proofs.Lemmas.OneStep.{refuses, joins, brought, Does, answers, wraps, passes, leaves, does}
 use Rattle.demands.proofs.Lemmas.Asks as asks
 use Rattle.demands.proofs.Lemmas.Asks.{Asks}
-use Rattle.demands.proofs.Lemmas.Sounds.{either}
+use Rattle.record.proofs.Choices.{either, never}
 use Rattle.demands.proofs.Lemmas.OneMessage.{lent-length}
 use Rattle.demands.proofs.Lemmas.Brought.{wrapper-says}
 use Rattle.demands.proofs.TableStays.{table-stays}
@@ -140,7 +141,7 @@ step-in-turn h (wraps v d w fits fresh) four xs rest =
     let after = taken (h .at) (brought v d) .after in
     join-turns (h .at .total) (h .at .reliable) (deliveredBy (h .held) 0 (brought v d) (contents d) (taken (h .at) (brought v d))) xs (after .total) (after .reliable)
     (subst (λ ds. turns.InTurn (h .at .total) (h .at .reliable) ds (after .total) (after .reliable))
-    (sym (step-numbers (h .at) (brought v d) (h .held) (contents d) four)) (turns.in-turn (h .at) (brought v d) four fresh))
+    (sym (step-numbers (h .at) (brought v d) (h .held) (contents d) four)) (in-turn (h .at) (brought v d) four fresh))
     rest
 step-in-turn h (passes ms) four xs rest =
     let stand = move-numbers (h .at) ms (moves (h .at) ms) in

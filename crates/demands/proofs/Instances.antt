@@ -15,7 +15,7 @@ use Rattle.message.specs.Lengths.{reliableWrapper, look, lengthOf}
 use Rattle.message.specs.Layouts.{total, reliable, cidAt, wrapperOf}
 use Rattle.message.specs.Reading.{readable, messageOf, readMessage}
 use Rattle.record.specs.WellFormed.{mostContents, closed}
-use Rattle.gap.proofs.Moves.{never}
+use Rattle.record.proofs.Choices.{never}
 use Rattle.wrapper.specs.Judge.{consistent, judgedBy, judged, farther, heard}
 use Rattle.wrapper.specs.Hold.{nextOne, placed}
 use Rattle.wrapper.specs.Release.{nextHeld, releaseAt, releaseFrom, released}

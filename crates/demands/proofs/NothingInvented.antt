@@ -25,15 +25,18 @@ use Rattle.record.specs.With.{freed, withNumbers}
 use Rattle.record.specs.declared.Place.{Place}
 use Rattle.record.specs.declared.Record.{Record}
 use Rattle.record.proofs.Formed.{formed}
-use Rattle.gap.proofs.Moves.{never, Move, stands, expires, lost, goes-on, moves}
-use Rattle.gap.proofs.Range.{Asked, nak-asks}
+use Rattle.record.proofs.Choices.{never}
+use Rattle.gap.proofs.Moves.{Move, stands, expires, lost, goes-on, moves}
+use Rattle.gap.specs.Range.{Asked}
+use Rattle.gap.proofs.Range.{nak-asks}
 use Rattle.gap.specs.Elapsed.{inStandoff, phased, elapsedOf}
 use Rattle.gap.specs.Range.{nearer, nearest, nakLast, nakFirst}
 use Rattle.gap.specs.declared.Elapsed.{Elapsed}
 use Rattle.gap.specs.declared.Event.the-variants as event
 use Rattle.wrapper.specs.Judge.{consistent, judgedBy, judged, farther, heard}
 use Rattle.wrapper.specs.Hold.{nextOne, holds, lowestFree, placeFor, heldAs, putIn, placed}
-use Rattle.wrapper.specs.Release.{noPlace, nextHeld, releaseAt, releaseFrom, released}
+use Rattle.record.specs.Places.{noPlace}
+use Rattle.wrapper.specs.Release.{nextHeld, releaseAt, releaseFrom, released}
 use Rattle.wrapper.specs.Settle.{gapped, asked, spared, acknowledged, settled}
 use Rattle.wrapper.specs.Taken.{taken, stepped}
 use Rattle.wrapper.specs.declared.Arrived.{Arrived}
@@ -41,14 +44,15 @@ use Rattle.wrapper.specs.declared.Fate.{Fate}
 use Rattle.wrapper.specs.declared.Fate.the-variants as fate
 use Rattle.wrapper.specs.declared.Plan.{Plan}
 use Rattle.wrapper.specs.declared.Search.the-variants as search
-use Rattle.wrapper.proofs.ReleaseIsDone.{Freed}
+use Rattle.wrapper.specs.Since.{Freed}
 use Rattle.table.specs.Table.{same, recordAt}
 use Rattle.sending.specs.Sent.{eventOf}
-use Rattle.carry.specs.Carried.{Delivered, placeAt, heldAfter, atOnce, fromPlace, deliveredBy}
+use Rattle.carry.specs.Carried.{Delivered, placeBegins, heldAfter, atOnce, fromPlace, deliveredBy}
 use Rattle.carry.proofs.Carrying.{place-ends}
 use Rattle.carry.proofs.DeliveredLength.{of-first}
 use Rattle.carry.proofs.OwnPlaces.{other-place}
-use Rattle.carry.proofs.PlanFits.{Kept, Taking, taking, used-below}
+use Rattle.record.proofs.Stored.{used-below}
+use Rattle.carry.proofs.PlanFits.{Kept, Taking, taking}
 use Rattle.member.specs.Sizes.{messageSizes, elapsedSizes}
 use Rattle.demands.specs.Runs.{Came, run, ownOf, alone, shown, Each, none, more}
 use Rattle.demands.specs.Calls as calls
@@ -110,7 +114,7 @@ stood {x} g h p q (kept j u e) =
     (subst (λ (ps : List Place). x ≡ fromPlace (g .held) 0 j (getD ps j noPlace)) p e))
 
 -- a wrapper that is held is as it was sent
-as-held : (octets : List ℕ) (v : ℕ) (d : List ℕ) (j : ℕ) → eqb v reliableWrapper ≡ true → part octets (placeAt 0 j) (length (contents d)) ≡ contents d
+as-held : (octets : List ℕ) (v : ℕ) (d : List ℕ) (j : ℕ) → eqb v reliableWrapper ≡ true → part octets (placeBegins 0 j) (length (contents d)) ≡ contents d
     → fromPlace octets 0 j (heldAs (brought v d)) ≡ asSent v d
 as-held octets v d j e p = rw (e, p)
 
@@ -136,22 +140,22 @@ module _ (i : ℕ) (owner : Cid) (channel : ℕ) (s : State) (joined : Joined i 
     t = taking r (brought v d) (it .four)
 
     in-slab : (j n : ℕ) → j < 4 → n ≤ mostContents
-        → part octets (placeAt 0 j) n ≡ part (heldAfter i (plan .fate) (contents d) (s .held)) (placeAt i j) n
+        → part octets (placeBegins 0 j) n ≡ part (heldAfter i (plan .fate) (contents d) (s .held)) (placeBegins i j) n
     in-slab j n hj hn =
-        ap (λ (o : List ℕ). part o (placeAt 0 j) n)
+        ap (λ (o : List ℕ). part o (placeBegins 0 j) n)
         (sym (slab-after i (plan .fate) (contents d) (s .held) (it .below) (t .below) most (joined .right .size)))
         ∙ slab-place i j n (heldAfter i (plan .fate) (contents d) (s .held)) hj hn
 
     -- what is written into a place is there
-    written : (j : ℕ) → plan .fate ≡ fate.Held j → part octets (placeAt 0 j) (length (contents d)) ≡ contents d
+    written : (j : ℕ) → plan .fate ≡ fate.Held j → part octets (placeBegins 0 j) (length (contents d)) ≡ contents d
     written j e =
         in-slab j (length (contents d)) (t .below j e) most
-        ∙ ap (λ (f : Fate). part (heldAfter i f (contents d) (s .held)) (placeAt i j) (length (contents d))) e
-        ∙ part-splice (s .held) (placeAt i j) (contents d)
+        ∙ ap (λ (f : Fate). part (heldAfter i f (contents d) (s .held)) (placeBegins i j) (length (contents d))) e
+        ∙ part-splice (s .held) (placeBegins i j) (contents d)
         (omega (arith, place-ends i j (length (contents d)) (it .below) (t .below j e) most, joined .right .size))
 
     -- a place that the wrapper is not held in is as it was
-    beside : (j n : ℕ) → j < 4 → n ≤ mostContents → plan .fate ≢ fate.Held j → part octets (placeAt 0 j) n ≡ part (slab i (s .held)) (placeAt 0 j) n
+    beside : (j n : ℕ) → j < 4 → n ≤ mostContents → plan .fate ≢ fate.Held j → part octets (placeBegins 0 j) n ≡ part (slab i (s .held)) (placeBegins 0 j) n
     beside j n hj hn z =
         in-slab j n hj hn
         ∙ other-place i (plan .fate) (contents d) (s .held) (it .below) (t .below) most (joined .right .size) i j n hn

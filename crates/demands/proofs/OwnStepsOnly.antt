@@ -11,8 +11,7 @@ use mathlib.Core.Path.{_≡_, refl, sym, ap, subst, _∙_}
 use native.Mathlib.Omega.{arith}
 use lib.Dec.{eqb, lit<, lit≤}
 use lib.ListN.{length, getD, replicate, length-replicate}
-use Rattle.octets.specs.Octets.{number, part}
-use Rattle.octets.proofs.Numbers.{Octets}
+use Rattle.octets.specs.Octets.{number, part, Octets}
 use Rattle.octets.proofs.Writes.{part-splice}
 use Rattle.counter.specs.Distance.{distance}
 use Rattle.message.specs.Layouts.{cidAt, wrapperOf, joinOf}
@@ -29,11 +28,11 @@ use Rattle.record.specs.declared.Terms.{Terms}
 use Rattle.record.proofs.Formed.{formed}
 use Rattle.gap.specs.Elapsed.{inStandoff, phased, elapsedOf}
 use Rattle.gap.specs.declared.Event.the-variants as event
-use Rattle.wrapper.specs.Release.{noPlace}
+use Rattle.record.specs.Places.{noPlace}
 use Rattle.table.specs.Table.{same, named, differs, tableFormed, recordAt}
 use Rattle.table.proofs.Tables.{named-is, is-named}
-use Rattle.carry.specs.Carried.{placeAt}
-use Rattle.carry.proofs.PlanFits.{used-below}
+use Rattle.carry.specs.Carried.{placeBegins}
+use Rattle.record.proofs.Stored.{used-below}
 use Rattle.carry.proofs.HeldAgree.{Agree}
 use Rattle.sending.specs.Sent.{eventOf}
 use Rattle.member.specs.Sizes.{heldSize, elapsedSizes}
@@ -115,8 +114,8 @@ contents-at h k e (suc (suc (suc zero))) l = ap (λ (cs : List (List ℕ)). getD
 contents-at h k e (suc (suc (suc (suc j)))) l = absurd (omega arith)
 
 contents-used : (h : Channel) (j : ℕ) → getD (h .at .places) j noPlace .used ≡ true
-    → contentsAt h j ≡ part (h .held) (placeAt 0 j) (getD (h .at .places) j noPlace .len)
-contents-used h j u = ap (λ (b : Bool). cond b (part (h .held) (placeAt 0 j) (getD (h .at .places) j noPlace .len)) []) u
+    → contentsAt h j ≡ part (h .held) (placeBegins 0 j) (getD (h .at .places) j noPlace .len)
+contents-used h j u = ap (λ (b : Bool). cond b (part (h .held) (placeBegins 0 j) (getD (h .at .places) j noPlace .len)) []) u
 
 -- the channel of two states that are the same for it
 record Alike (i : ℕ) (owner : Cid) (channel : ℕ) (h k : Channel) : Type 0 where
@@ -262,17 +261,17 @@ unfolding tableFormed
     differs named same wellFormed termsRight legalNames legalParameters minExpiry distance heldAllRight heldRight heldApart apartFrom apart gapRight closed maxRetries
 joined-two = joined-in (holding second) 255 (sound-holding second) refl
 
-written-at : (x : ℕ) → placeAt 2 0 ≤ length (replicate heldSize x)
-unfolding placeAt
+written-at : (x : ℕ) → placeBegins 2 0 ≤ length (replicate heldSize x)
+unfolding placeBegins
 written-at x =
     let l : length (replicate heldSize x) ≡ heldSize = length-replicate heldSize x in
     omega arith
 
-written : (x : ℕ) → part (heldOf x) (placeAt 2 0) 3 ≡ 1 ∷ 2 ∷ 3 ∷ []
+written : (x : ℕ) → part (heldOf x) (placeBegins 2 0) 3 ≡ 1 ∷ 2 ∷ 3 ∷ []
 unfolding heldOf
-written x = part-splice (replicate heldSize x) (placeAt 2 0) (1 ∷ 2 ∷ 3 ∷ []) (written-at x)
+written x = part-splice (replicate heldSize x) (placeBegins 2 0) (1 ∷ 2 ∷ 3 ∷ []) (written-at x)
 
-in-slab : (x : ℕ) → part (slab 2 (heldOf x)) (placeAt 0 0) 3 ≡ 1 ∷ 2 ∷ 3 ∷ []
+in-slab : (x : ℕ) → part (slab 2 (heldOf x)) (placeBegins 0 0) 3 ≡ 1 ∷ 2 ∷ 3 ∷ []
 in-slab x = slab-place 2 0 3 (heldOf x) (lit< tt) (lit≤ tt) ∙ written x
 
 same-two : SameChannel 2 (stateOf free 0) (stateOf (holding second) 255)
@@ -322,7 +321,7 @@ spends : (held : List ℕ)
     → map seenOf (alone (one first) live (record { at = holding first; held = held }) time)
     ≡ record {
       at = withGap (withIdle (holding first) 20) (gap.Standoff 30 0);
-      contents = part held (placeAt 0 0) 3 ∷ [] ∷ [] ∷ [] ∷ [];
+      contents = part held (placeBegins 0 0) 3 ∷ [] ∷ [] ∷ [] ∷ [];
       told = passed event.Nothing [];
     }
     ∷ []

@@ -13,8 +13,7 @@ use lib.Dec.{ltb, eqb, lit<, lit≤}
 use lib.ListN.{length, getD, length-append}
 use lib.Seq.{take-nil}
 use borrow.Author.Tests.{ltb-true, ltb-false, ne-eqb}
-use Rattle.octets.specs.Octets.{number, octets}
-use Rattle.octets.proofs.Numbers.{Octets as Bytes}
+use Rattle.octets.specs.Octets.{number, octets, Octets as Bytes}
 use Rattle.counter.specs.Distance.{turn}
 use Rattle.counter.specs.declared.Reliable.{Reliable}
 use Rattle.counter.proofs.Distances.{next-below, before-below}
@@ -57,7 +56,7 @@ use Rattle.wrapper.specs.declared.Reply.{Reply}
 use Rattle.wrapper.specs.declared.Reply.the-variants as reply
 use Rattle.wrapper.specs.declared.Settled.{Settled}
 use Rattle.joining.specs.Joining.{legalBlock, legal, existingOf, decideNew, decideFor, decideAt, decided}
-use Rattle.joining.specs.Replies.{memberAt, askedAt, refusal, acceptance, departure, missing}
+use Rattle.joining.specs.Replies.{memberAt, askedAt, joinRefuseOf, acceptance, departure, missing}
 use Rattle.joining.specs.declared.Decision.{Decision}
 use Rattle.joining.specs.declared.Decision.the-variants as decision
 use Rattle.joining.specs.declared.Existing.{Existing}
@@ -69,7 +68,8 @@ use Rattle.sending.specs.Sent.{sentOf, replyOf, eventOf, welcomeOf, joinReplyOf
 use Rattle.demands.specs.Calls.{Sound, Both}
 use Rattle.demands.specs.ReadBack.{ReadAt, ReadFrom, replyMeans, eventMeans, joinMeans, FitTerms, FitReply, FitEvent, FitDecision, FitAsked, FitExisting}
 use Rattle.demands.proofs.Lemmas.Back.{short, message-back}
-use Rattle.demands.proofs.Lemmas.Sounds.{either, taken-sound}
+use Rattle.record.proofs.Choices.{either}
+use Rattle.demands.proofs.Lemmas.Sounds.{taken-sound}
 use Rattle.demands.proofs.Lemmas.Brought.{number-short}
 use Rattle.demands.proofs.Lemmas.Kept.{terms-kept}
 use Rattle.demands.proofs.Lemmas.Sample as sample
@@ -154,10 +154,10 @@ missing-read : (t : Terms) (r first last : Reliable) → FitTerms t → Octets 4
 unfolding missing hasForm addressOf
 missing-read t r first last f h a b = one-read (missing t r first last) (member-fits t r f h, a, b) refl
 
-refusal-read : (owner : Cid) (j : Join) (reason : ℕ) → FitAsked owner j → Octets 1 reason
-    → ReadFrom (sentOf (refusal owner j reason)) 0 (refusal owner j reason ∷ [])
-unfolding refusal hasForm addressOf
-refusal-read owner j reason f o = one-read (refusal owner j reason) (asked-fits owner j (j .reliable) f (f .reliable), o) refl
+join-refuse-read : (owner : Cid) (j : Join) (reason : ℕ) → FitAsked owner j → Octets 1 reason
+    → ReadFrom (sentOf (joinRefuseOf owner j reason)) 0 (joinRefuseOf owner j reason ∷ [])
+unfolding joinRefuseOf hasForm addressOf
+join-refuse-read owner j reason f o = one-read (joinRefuseOf owner j reason) (asked-fits owner j (j .reliable) f (f .reliable), o) refl
 
 acceptance-read : (owner : Cid) (j : Join) (r : Reliable) (n : ℕ) → FitAsked owner j → Octets 4 (r .0) → Octets 2 n
     → ReadFrom (sentOf (acceptance owner j r n)) 0 (acceptance owner j r n ∷ [])
@@ -189,7 +189,7 @@ event-read t (event.Leaving reason r) f g = departure-read t r reason f (g .1) (
 pub join-reply-read : (owner : Cid) (j : Join) (n : ℕ) (x : Decision) → FitAsked owner j → Octets 2 n → FitDecision x
     → ReadFrom (joinReplyOf owner j n x) 0 (joinMeans owner j n x)
 unfolding joinReplyOf
-join-reply-read owner j n (decision.Refuse reason) f o g = refusal-read owner j reason f g
+join-reply-read owner j n (decision.Refuse reason) f o g = join-refuse-read owner j reason f g
 join-reply-read owner j n (decision.Again r reciprocal) f o g = acceptance-read owner j r reciprocal f (g .0) (g .1)
 join-reply-read owner j n (decision.Make p) f o g = welcome-read owner j n f o
 

@@ -25,8 +25,8 @@ use Rattle.carry.specs.declared.Deliveries.{Deliveries}
 use Rattle.carry.proofs.Appended.{listed-count}
 use Rattle.carry.proofs.Beside.{part-beside}
 use Rattle.carry.proofs.PlanFits.{plan-fits}
-use Rattle.carry.proofs.DeliveredLength.{Whole, delivered-length, delivered-few}
-use Rattle.carry.proofs.DeliveredLength as lengths
+use Rattle.carry.specs.Whole.{Each, Whole}
+use Rattle.carry.proofs.DeliveredLength.{delivered-length, delivered-few}
 use Rattle.carry.proofs.DeliverPast.{deliver-cell}
 use Rattle.member.specs.Sizes.{tableSize, deliverSize, cellSize, cellsSize}
 use Rattle.member.specs.Messages.{Outcome, planOutcome, messageOutcome, messaged, deliverAfter, replyAfter}
@@ -37,7 +37,7 @@ use Rattle.demands.proofs.Lemmas.Outcomes.{Carries, message-cases}
 
 -- deliveries that have cells: five at most, each as long as it says
 record Stand (ds : List Delivered) : Type 0 where
-  whole : lengths.Each Whole ds
+  whole : Each Whole ds
   few : length ds ≤ 5
 
 module _ (s : State) (right : Right s) where

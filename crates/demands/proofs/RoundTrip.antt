@@ -11,7 +11,7 @@ use lib.ListN.{length, getD, drop}
 use lib.Seq.{take-length}
 use lib.Dec.{lit<, lit≤}
 use Rattle.octets.specs.Octets.{number, octets}
-use Rattle.octets.proofs.Numbers.{Octets}
+use Rattle.octets.specs.Octets.{Octets}
 use Rattle.block.specs.Pdu.{headSize, fields, sizeAt, lacksFlag, leftOver, malformed, foundAt, pduAt}
 use Rattle.block.specs.Block.{parseFrom, parse, messageAt, asked, readBlock}
 use Rattle.block.specs.declared.BlockRead.the-variants as block

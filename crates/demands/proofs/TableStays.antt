@@ -9,7 +9,7 @@ use native.Mathlib.Omega.{arith}
 use lib.Dec.{lit<, ltb, eqb}
 use lib.ListN.{length, set, replicate, length-set, length-map, getD-replicate}
 use borrow.Author.Tests.{eqb-true}
-use Rattle.octets.proofs.Numbers.{Octets}
+use Rattle.octets.specs.Octets.{Octets}
 use Rattle.message.specs.Layouts.{cidAt}
 use Rattle.message.specs.Reading.{contents}
 use Rattle.message.specs.declared.Cid.{Cid}
@@ -19,11 +19,11 @@ use Rattle.record.specs.Reasons.{leavingReason}
 use Rattle.record.specs.WellFormed.{mostContents, wellFormed}
 use Rattle.record.specs.With.{freed}
 use Rattle.record.specs.declared.Record.{Record}
-use Rattle.record.proofs.Formed.{placeAt}
+use Rattle.record.specs.Places.{placeAt, noPlace}
 use Rattle.gap.specs.Elapsed.{gives, elapsedOf}
 use Rattle.gap.specs.declared.Event.the-variants as event
 use Rattle.gap.specs.declared.Elapsed.{Elapsed}
-use Rattle.gap.proofs.Moves.{Move, stands, expires, lost, goes-on, moves, never}
+use Rattle.gap.proofs.Moves.{Move, stands, expires, lost, goes-on, moves}
 use Rattle.gap.proofs.Stays.{elapsed-formed, terms-stay}
 use Rattle.wrapper.specs.Taken.{stepped}
 use Rattle.wrapper.specs.declared.Arrived.{Arrived}
@@ -34,7 +34,7 @@ use Rattle.joining.specs.declared.Decision.{Decision}
 use Rattle.joining.specs.declared.Decision.the-variants as decision
 use Rattle.joining.proofs.Made.{made-well-formed}
 use Rattle.joining.proofs.Depends.{accepted-new}
-use Rattle.table.specs.Table.{named, found, lowestFree, tableFormed, blank, freshPlace, freeTable, recordAt}
+use Rattle.table.specs.Table.{named, found, lowestFree, tableFormed, blank, freeTable, recordAt}
 use Rattle.table.specs.declared.Found.{Found}
 use Rattle.table.specs.declared.Found.the-variants as search
 use Rattle.table.proofs.Finding.{found-at, found-nowhere, free-at}
@@ -52,7 +52,8 @@ use Rattle.member.specs.Leaving.{Departing, leaveFor, departing, leaveOutcome}
 use Rattle.demands.specs.Calls as calls
 use Rattle.demands.specs.Calls.{Call, State, tableStep, lentAs, Sound, Lawful, Right, Both}
 use Rattle.demands.proofs.Lemmas.Kept.{terms-kept}
-use Rattle.demands.proofs.Lemmas.Sounds.{either, sound-by, aside, taken-sound, elapsed-sound, made-sound}
+use Rattle.record.proofs.Choices.{either, never}
+use Rattle.demands.proofs.Lemmas.Sounds.{sound-by, aside, taken-sound, elapsed-sound, made-sound}
 use Rattle.demands.proofs.Lemmas.Brought.{Brings, asked-brings}
 
 -- ---- a table of the machine's numbers
@@ -304,12 +305,12 @@ table-stays s (calls.leave reply owner channel reason) right lawful =
 
 -- ---- the first table
 
-fresh-at : (n j : ℕ) → placeAt (replicate n freshPlace) j ≡ freshPlace
+fresh-at : (n j : ℕ) → placeAt (replicate n noPlace) j ≡ noPlace
 fresh-at zero j = refl
 fresh-at (suc n) zero = refl
 fresh-at (suc n) (suc j) = fresh-at n j
 
-fresh-sound : Sound (blank (replicate 4 freshPlace))
+fresh-sound : Sound (blank (replicate 4 noPlace))
 fresh-sound =
     sound-by refl (lit< tt, lit< tt) (lit< tt) (lit< tt) (λ j. rw (fresh-at 4 j) (lit< tt, lit< tt))
 
@@ -319,6 +320,6 @@ free-table-right held size =
     record {
       formed = free-table-formed;
       eight = refl;
-      sound = λ k l. rw (getD-replicate 8 k (blank (replicate 4 freshPlace)) (blank []) l) fresh-sound;
+      sound = λ k l. rw (getD-replicate 8 k (blank (replicate 4 noPlace)) (blank []) l) fresh-sound;
       size = size;
     }

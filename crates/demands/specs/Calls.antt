@@ -9,9 +9,9 @@ use lib.ListN.{length, replicate}
 use Rattle.counter.specs.Distance.{turn}
 use Rattle.counter.specs.declared.Total.{Total}
 use Rattle.counter.specs.declared.Reliable.{Reliable}
-use Rattle.octets.proofs.Numbers.{Octets}
+use Rattle.octets.specs.Octets.{Octets}
 use Rattle.record.specs.declared.Record.{Record}
-use Rattle.record.proofs.Formed.{placeAt}
+use Rattle.record.specs.Places.{placeAt}
 use Rattle.table.specs.Table.{tableFormed, recordAt}
 use Rattle.member.specs.Sizes.{tableSize, heldSize}
 use Rattle.member.specs.Messages.{Outcome, messageOutcome}

@@ -29,7 +29,7 @@ use Rattle.joining.specs.Replies.{departure}
 use Rattle.joining.specs.declared.Decision.{Decision}
 use Rattle.table.specs.Table.{same, recordAt, blank}
 use Rattle.sending.specs.Sent.{sentOf, replyOf, eventOf, joinReplyOf}
-use Rattle.carry.specs.Carried.{Delivered, placeAt, heldAfter, deliveredBy}
+use Rattle.carry.specs.Carried.{Delivered, placeBegins, heldAfter, deliveredBy}
 use Rattle.asking.specs.Asking.{arrivedOf}
 use Rattle.member.specs.Sizes.{messageSizes, elapsedSizes, leaveSizes, tableSize, cidSize}
 use Rattle.member.specs.Elapsing.{longest, Passing, sentBy}
@@ -143,7 +143,7 @@ placesSize = 4 * mostContents
 
 -- the octets of record i's four places, within all held octets
 abbrev pub slab : ℕ → List ℕ → List ℕ
-slab i held = part held (placeAt i 0) placesSize
+slab i held = part held (placeBegins i 0) placesSize
 
 unfoldable pub channelAt : ℕ → State → Channel
 channelAt i s = record { at = recordAt (s .table) i; held = slab i (s .held) }

@@ -25,7 +25,7 @@ use Rattle.wrapper.specs.declared.Fate.the-variants as fate
 use Rattle.wrapper.specs.declared.Reply.{Reply}
 use Rattle.wrapper.specs.declared.Reply.the-variants as reply
 use Rattle.wrapper.specs.declared.Stepped.{Stepped}
-use Rattle.table.specs.Table.{freshPlace}
+use Rattle.record.specs.Places.{noPlace}
 
 -- ---- what an example gives, and what comes of it
 
@@ -75,7 +75,7 @@ quiet t r a =
       acked = reliable a;
       idle = 0;
       gap = gap.Quiet;
-      places = replicate 4 freshPlace;
+      places = replicate 4 noPlace;
     }
 
 abbrev pub told : Stepped → Comes

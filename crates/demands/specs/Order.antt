@@ -21,9 +21,9 @@ use Rattle.message.specs.declared.Parameters.{Parameters}
 use Rattle.record.specs.Profile.{nakTimeout, maxRetries}
 use Rattle.record.specs.WellFormed.{closed}
 use Rattle.record.specs.declared.Terms.{Terms}
-use Rattle.gap.proofs.Range.{Asked}
+use Rattle.gap.specs.Range.{Asked}
 use Rattle.gap.specs.declared.Event.the-variants as event
-use Rattle.wrapper.specs.Release.{noPlace}
+use Rattle.record.specs.Places.{noPlace}
 use Rattle.joining.specs.declared.Decision.the-variants as decision
 use Rattle.table.specs.declared.Found.the-variants as search
 use Rattle.carry.specs.Carried.{Delivered, fromPlace}

@@ -24,7 +24,7 @@ use Rattle.gap.specs.declared.Event.the-variants as event
 use Rattle.gap.specs.declared.Event.{Event}
 use Rattle.wrapper.specs.declared.Reply.the-variants as reply
 use Rattle.wrapper.specs.declared.Reply.{Reply}
-use Rattle.joining.specs.Replies.{departure, refusal, acceptance, missing}
+use Rattle.joining.specs.Replies.{departure, joinRefuseOf, acceptance, missing}
 use Rattle.joining.specs.declared.Decision.the-variants as decision
 use Rattle.joining.specs.declared.Decision.{Decision}
 use Rattle.joining.specs.declared.Existing.the-variants as existing
@@ -100,7 +100,7 @@ eventMeans t (event.Leaving reason r) = departure t r reason ∷ []
 
 -- the answer to the Join j of this owner, where n is the caller's reciprocal number
 abbrev pub joinMeans : Cid → Join → ℕ → Decision → List Message
-joinMeans owner j n (decision.Refuse reason) = refusal owner j reason ∷ []
+joinMeans owner j n (decision.Refuse reason) = joinRefuseOf owner j reason ∷ []
 joinMeans owner j n (decision.Again r reciprocal) = acceptance owner j r reciprocal ∷ []
 joinMeans owner j n (decision.Make p) = acceptance owner j (j .reliable) n ∷ message.Ack (j .reliable) ∷ []
 

@@ -10,9 +10,9 @@ use Rattle.octets.specs.Octets.{part}
 use Rattle.message.specs.Lengths.{join}
 use Rattle.message.specs.declared.Cid.{Cid}
 use Rattle.record.specs.declared.Record.{Record}
-use Rattle.wrapper.specs.Release.{noPlace}
+use Rattle.record.specs.Places.{noPlace}
 use Rattle.table.specs.Table.{named, recordAt}
-use Rattle.carry.specs.Carried.{placeAt}
+use Rattle.carry.specs.Carried.{placeBegins}
 use Rattle.demands.specs.Runs.{Came}
 use Rattle.demands.specs.Calls as calls
 use Rattle.demands.specs.Calls.{Call, State, Right}
@@ -27,7 +27,7 @@ pub record Joined (i : ℕ) (owner : Cid) (channel : ℕ) (s : State) : Type 0 w
 
 -- the contents of place j: the octets of the wrapper that it holds, as many as its length says. A free place holds none, whatever octets lie there
 abbrev pub contentsAt : Channel → ℕ → List ℕ
-contentsAt h j = cond (getD (h .at .places) j noPlace .used) (part (h .held) (placeAt 0 j) (getD (h .at .places) j noPlace .len)) []
+contentsAt h j = cond (getD (h .at .places) j noPlace .used) (part (h .held) (placeBegins 0 j) (getD (h .at .places) j noPlace .len)) []
 
 -- of all four places
 unfoldable pub heldContents : Channel → List (List ℕ)

@@ -10,13 +10,14 @@ use lib.IntN.{ℤ}
 use lib.ListN.{length, getD}
 use lib.Signed.{ltZ}
 use mir.Syntax.{w32, w64}
-use mir.Val.{toZ, ofZ, Fits, SFits}
+use mir.Val.{Fits, SFits}
 use mir.Facts.{toZ-ofZ}
 use borrow.Author.Needs.{needs, sfits-of}
 use borrow.Author.Tests.{not-true, not-false, eq-eqb, ne-eqb, le-leb, lt-leb}
 use Rattle.counter.specs.Distance.{distance}
 use Rattle.counter.specs.Steps.{next, previous}
 use Rattle.counter.specs.declared.Reliable.{Reliable}
+use Rattle.counter.proofs.Signed.{read}
 use Rattle.record.specs.Profile.{nakTimeout, maxRetries}
 use Rattle.record.specs.Reasons.{channelExpired, lostSequence}
 use Rattle.record.specs.With.{freed, withGap, withIdle}
@@ -25,6 +26,7 @@ use Rattle.record.specs.declared.Gap.{Gap}
 use Rattle.record.specs.declared.Gap.the-variants as gap
 use Rattle.record.specs.declared.Place.{Place}
 use Rattle.record.specs.declared.Record.{Record}
+use Rattle.record.proofs.Profile.{retries-fit}
 use Rattle.record.proofs.Formed.{formed, has-modulus, idle-below, standoff-count}
 use Rattle.gap.specs.Standoff.{standoffOf}
 use Rattle.gap.specs.Range.{nearer, nearest, nakFirst, nakLast}
@@ -45,10 +47,6 @@ remainder-fits s m h p q o =
     record { fits = omega arith }
 
 -- ---- the nearest held number
-
--- the machine tests a signed number by its bits, `toZ w32 (ofZ w32 x)`, which is x since x fits
-abbrev read : ℤ → ℤ
-read x = toZ w32 (ofZ w32 x)
 
 module _ (r : Reliable) (p : Place) where
   pub nearer-free : (n : Nearest) → not (p .used) ≡ true → n ≡ nearer r n p
@@ -127,11 +125,6 @@ module _ (r s : Record) (left count : ℕ) where
   wait-goes-on z g = rw (g, ne-eqb left 0 z)
 
 pub ruleset two-phases = (standoff-ends, standoff-goes-on, wait-lost, wait-ends, wait-goes-on)
-
--- all that is asked of NAK_MAX_RETRIES: the code counts NAKs in an octet
-retries-fit : maxRetries ≤ 255
-unfolding maxRetries
-retries-fit = omega arith
 
 module _ (r : Record) (u : r .used ≡ true) (w : wellFormed r ≡ true) where
   pub may-count : (left count : ℕ) → r .gap ≡ gap.Standoff left count → count < 255

@@ -20,10 +20,6 @@ use Rattle.gap.specs.declared.Event.{Event}
 use Rattle.gap.specs.declared.Event.the-variants.{Nothing, Nak, Leaving}
 use Rattle.gap.specs.declared.Elapsed.{Elapsed}
 
--- from two constructors that would be equal `cc` has 0 ≡ 1, and from that anything follows
-pub never : {A : Type 0} → _≡_ {A = ℕ} 0 1 → A
-never e = absurd (omega arith)
-
 -- the record with its idle time grown
 abbrev pub later : Record → ℕ → Record
 later r ms = withIdle r (r .idle + ms)

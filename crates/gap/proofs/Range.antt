@@ -13,21 +13,22 @@ use Rattle.counter.specs.Distance.{turn, ahead, distance}
 use Rattle.counter.specs.Steps.{next, previous}
 use Rattle.counter.specs.declared.Reliable.{Reliable}
 use Rattle.counter.proofs.Distances.{ahead-below, ahead-zero, ahead-add, before-below, test-nearer}
+use Rattle.record.specs.Places.{placeAt}
 use Rattle.record.specs.WellFormed.{wellFormed, closed}
 use Rattle.record.specs.declared.Gap.{Gap}
 use Rattle.record.specs.declared.Gap.the-variants.{Quiet, Standoff, Waiting}
 use Rattle.record.specs.declared.Place.{Place}
 use Rattle.record.specs.declared.Record.{Record}
 use Rattle.record.proofs.Formed as formed
-use Rattle.record.proofs.Formed.{placeAt}
-use Rattle.gap.specs.Range.{nearer, nearest, endBy, nakFirst, nakLast}
+use Rattle.record.proofs.Choices.{never}
+use Rattle.gap.specs.Range.{nearer, nearest, endBy, nakFirst, nakLast, Asked}
 use Rattle.gap.specs.Elapsed.{elapsedOf}
 use Rattle.gap.specs.declared.Event.{Event}
 use Rattle.gap.specs.declared.Event.the-variants as event
 use Rattle.gap.specs.declared.Elapsed.{Elapsed}
 use Rattle.gap.specs.declared.Nearest.{Nearest}
 use Rattle.gap.specs.declared.Nearest.the-variants.{Held, Nothing}
-use Rattle.gap.proofs.Moves.{Next, quiet, stands-on, asks, waits-on, once-more, Move, stands, expires, lost, goes-on, moves, never}
+use Rattle.gap.proofs.Moves.{Next, quiet, stands-on, asks, waits-on, once-more, Move, stands, expires, lost, goes-on, moves}
 
 -- one before a number is one fewer ahead, if there was one
 ahead-previous : (a b : ℕ) → a < turn → 1 ≤ ahead a b → ahead a (previous b) + 1 ≡ ahead a b
@@ -105,13 +106,6 @@ module _ (r k : Reliable) (known : ahead (r .0) (k .0) < 2147483648) where
       after one (nearest-is ps (nearer r n p) (one .fine) (λ i. h (suc i)))
 
 -- ---- the range
-
--- what is asked for: from `first` to `last`, with R, K and the places
-pub record Asked (reliable known : ℕ) (places : List Place) (first last : ℕ) : Type 0 where
-  pub begins : first ≡ next reliable
-  pub some : 1 ≤ ahead reliable last
-  pub within : ahead reliable last ≤ ahead reliable known
-  pub missing : (i : ℕ) → placeAt places i .used ≡ true → ahead reliable last < ahead reliable (placeAt places i .reliable .0)
 
 ends : (r k : Reliable) (h : ahead (r .0) (k .0) < 2147483648) (ps : List Place) → r .0 < turn → 1 ≤ ahead (r .0) (k .0)
     → (m : Nearest) → Nearest-of r k h Nothing ps m → Asked (r .0) (k .0) ps (next (r .0)) (endBy m k .0)

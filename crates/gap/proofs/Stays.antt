@@ -12,13 +12,14 @@ use Rattle.record.specs.With.{withGap, withIdle}
 use Rattle.record.specs.WellFormed.{wellFormed}
 use Rattle.record.specs.declared.Gap.{Gap}
 use Rattle.record.specs.declared.Record.{Record}
+use Rattle.record.proofs.Choices.{never}
 use Rattle.record.proofs.Formed.{Phase, Formed, formed, well-formed, free-formed}
 use Rattle.gap.specs.Standoff.{min, standoff, standoffOf}
 use Rattle.gap.specs.Elapsed.{elapsedOf}
 use Rattle.gap.specs.declared.Event.{Event}
 use Rattle.gap.specs.declared.Event.the-variants.{Leaving}
 use Rattle.gap.specs.declared.Elapsed.{Elapsed}
-use Rattle.gap.proofs.Moves.{Next, quiet, stands-on, asks, waits-on, once-more, Move, stands, expires, lost, goes-on, moves, never}
+use Rattle.gap.proofs.Moves.{Next, quiet, stands-on, asks, waits-on, once-more, Move, stands, expires, lost, goes-on, moves}
 
 -- ---- idle time and the phase
 

@@ -1,10 +1,13 @@
 -- The range of a NAK (01, "One channel", elapsed): all that is missing before the nearest held wrapper, or all up to K.
-use mathlib.Core.Bool.{cond}
+use Prim.Native.Nat.{ℕ, _<_, _≤_}
+use mathlib.Core.Bool.{true, cond}
 use mathlib.Core.List.{List, [], _∷_}
+use mathlib.Core.Path.{_≡_}
 use lib.Signed.{ltZ}
-use Rattle.counter.specs.Distance.{distance}
+use Rattle.counter.specs.Distance.{ahead, distance}
 use Rattle.counter.specs.Steps.{next, previous}
 use Rattle.counter.specs.declared.Reliable.{Reliable}
+use Rattle.record.specs.Places.{placeAt}
 use Rattle.record.specs.declared.Place.{Place}
 use Rattle.record.specs.declared.Record.{Record}
 use Rattle.gap.specs.declared.Nearest.{Nearest}
@@ -31,3 +34,12 @@ nakLast r = endBy (nearest (r .reliable) Nothing (r .places)) (r .known)
 
 unfoldable pub nakFirst : Record → Reliable
 nakFirst r = record { 0 = next (r .reliable .0) }
+
+-- What 01 asks of a NAK's range, said of the range `first` to `last` by itself and not of how it is found, with R, K and the record's places: it begins right behind R;
+-- counting up from R, at least one number leads to its end; its end is not past K; and every held number comes behind its end, so that only what is missing
+-- is asked for. That the NAKs of a record are so is proved (proofs/Range.antt)
+pub record Asked (reliable known : ℕ) (places : List Place) (first last : ℕ) : Type 0 where
+  pub begins : first ≡ next reliable
+  pub some : 1 ≤ ahead reliable last
+  pub within : ahead reliable last ≤ ahead reliable known
+  pub missing : (i : ℕ) → placeAt places i .used ≡ true → ahead reliable last < ahead reliable (placeAt places i .reliable .0)

@@ -10,11 +10,11 @@ use Rattle.counter.specs.declared.Reliable.{Reliable}
 use Rattle.message.specs.declared.Parameters.{Parameters}
 use Rattle.message.specs.declared.Address.{Address}
 use Rattle.message.specs.declared.Address.the-variants.{Null, Ipv4, Other}
-use Rattle.message.specs.declared.Endpoint.{Endpoint}
 use Rattle.message.specs.declared.Join.{Join}
 use Rattle.record.specs.Reasons.{illegalParameters, lowResources, alreadyMember, badAddress, noReciprocal}
 use Rattle.record.specs.declared.Record.{Record}
 use Rattle.joining.specs.Joining.{legal, decideNew, decideFor, existingOf, decideAt, decided}
+use Rattle.joining.specs.Checks.{supported, Carries, null, ipv4, Another}
 use Rattle.joining.specs.declared.Existing.{Existing}
 use Rattle.joining.specs.declared.Existing.the-variants.{Known, Unknown}
 use Rattle.joining.specs.declared.Decision.{Decision}
@@ -29,22 +29,6 @@ pub depends : (j : Join) (r s : Record) (n : ℕ) (free : Bool)
 depends j r s n free m e c = rw (m, e, c)
 
 -- ---- of the checks
-
--- the address type is supported
-abbrev pub supported : Address → Bool
-supported (Null p) = true
-supported (Ipv4 i p) = true
-supported (Other t) = false
-
--- the parameters behind a supported address
-pub data Carries (p : Parameters) : Address → Type 0 where
-  null : Carries p (Null p)
-  ipv4 : {i : Endpoint} → Carries p (Ipv4 i p)
-
--- there is a record, and its MID is another than the one asked for
-abbrev pub Another : ℕ → Existing → Type 0
-Another asked (Known mid r own) = mid ≢ asked
-Another asked Unknown = ⊥
 
 -- why a Join is answered so: the condition of one check, where those before it let the Join pass
 data Cause (j : Join) (x : Existing) (n : ℕ) (free : Bool) : Decision → Type 0 where

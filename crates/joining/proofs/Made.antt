@@ -1,10 +1,10 @@
 -- The record of an accepted Join is well formed (01, "One channel", its last paragraph), whatever the free record was. Assumes nothing.
 use Prim.Native.Nat.{ℕ, zero, suc, _<_}
-use mathlib.Core.Bool.{Bool, true, false, not, _&&_, and-eq-true-iff, true≢false}
+use mathlib.Core.Bool.{Bool, true, false, not, true≢false}
 use mathlib.Core.List.{List, [], _∷_, map}
 use mathlib.Core.Path.{_≡_, refl, sym, _∙_}
 use native.Mathlib.Omega.{arith}
-use lib.Dec.{eqb, lit<}
+use lib.Dec.{eqb}
 use borrow.Author.Tests.{leb-true}
 use Rattle.message.specs.declared.Cid.{Cid}
 use Rattle.message.specs.declared.Parameters.{Parameters}
@@ -12,23 +12,19 @@ use Rattle.message.specs.declared.Address.{Address}
 use Rattle.message.specs.declared.Join.{Join}
 use Rattle.record.specs.Profile.{minExpiry}
 use Rattle.record.specs.Legal.{legalNames, legalParameters}
+use Rattle.record.specs.Places.{placeAt}
 use Rattle.record.specs.WellFormed.{wellFormed}
 use Rattle.record.specs.With.{freePlace}
 use Rattle.record.specs.declared.Place.{Place}
 use Rattle.record.specs.declared.Record.{Record}
-use Rattle.record.proofs.Formed.{placeAt, well-formed}
+use Rattle.record.proofs.Choices.{both}
+use Rattle.record.proofs.Profile.{some-expiry}
+use Rattle.record.proofs.Formed.{well-formed}
 use Rattle.joining.specs.Joining.{legalBlock, legalAddress, legal, decided, newRecord}
+use Rattle.joining.specs.Checks.{Carries, null, ipv4}
 use Rattle.joining.specs.declared.Existing.{Existing}
 use Rattle.joining.specs.declared.Decision.the-variants.{Make}
-use Rattle.joining.proofs.Depends.{Carries, null, ipv4, accepted-new}
-
--- a channel lives at least a second: all that is used of MIN_EXPIRY_TIME
-some-expiry : 0 < minExpiry
-unfolding minExpiry
-some-expiry = lit< tt
-
-both : (a b : Bool) → a && b ≡ true → (a ≡ true) × (b ≡ true)
-both a b = and-eq-true-iff a b .0
+use Rattle.joining.proofs.Depends.{accepted-new}
 
 -- a legal Join has legal parameters behind its address
 legal-carried : {p : Parameters} {a : Address} → Carries p a → legalAddress a ≡ true → legalParameters (p .modulus) (p .expiry) ≡ true

@@ -1,7 +1,7 @@
 -- What a Join is answered (01, "Joining"): j is the Join, e what the table has for its owner and channel, n the caller's reciprocal number,
 -- and `free` says whether a record is free.
 use Prim.Native.Nat.{ℕ, _%_, _/_}
-use mathlib.Core.Bool.{Bool, true, cond, not, _&&_}
+use mathlib.Core.Bool.{Bool, true, cond, _&&_}
 use mathlib.Core.List.{map}
 use lib.Dec.{eqb}
 use Rattle.message.specs.declared.Cid.{Cid}

@@ -16,9 +16,9 @@ memberAt t r = record { leader = t .owner; channel = t .channel; mid = t .mid; r
 unfoldable pub askedAt : Cid → Join → Reliable → Membership
 askedAt owner j r = record { leader = owner; channel = j .channel; mid = j .mid; reliable = r }
 
--- the answer to a Join that is turned down names it by its own numbers
-unfoldable pub refusal : Cid → Join → ℕ → Message
-refusal owner j reason = message.JoinRefuse (askedAt owner j (j .reliable)) reason
+-- the Join Refuse of a Join that is turned down names it by its own numbers
+unfoldable pub joinRefuseOf : Cid → Join → ℕ → Message
+joinRefuseOf owner j reason = message.JoinRefuse (askedAt owner j (j .reliable)) reason
 
 -- the answer to a Join that is taken says what was processed last, and where we answer
 unfoldable pub acceptance : Cid → Join → Reliable → ℕ → Message

@@ -3,7 +3,7 @@ ghost use mathlib.Core.Path.{_≡_};
 ghost use mathlib.Core.List.{map};
 ghost use Rattle.record.specs.With.{freePlace};
 ghost use Rattle.joining.specs.Joining.{legalBlock, legalAddress, legal, decideNew, decideFor, decided, newRecord};
-ghost use Rattle.joining.specs.Replies.{memberAt, askedAt, refusal, acceptance, departure, missing};
+ghost use Rattle.joining.specs.Replies.{memberAt, askedAt, joinRefuseOf, acceptance, departure, missing};
 use counter::Reliable;
 use message::Address;
 use message::Cid;
@@ -182,8 +182,8 @@ fn asked_at(owner: Cid, j: Join, reliable: Reliable) -> Membership
 }
 
 // The Join Refuse of a Join.
-pub fn refusal_of(owner: Cid, j: Join, reason: u8) -> Message
-    ensures { λ m. ⌜ m ≡ refusal owner j reason ⌝ }
+pub fn join_refuse_of(owner: Cid, j: Join, reason: u8) -> Message
+    ensures { λ m. ⌜ m ≡ joinRefuseOf owner j reason ⌝ }
 {
     let reliable = j.reliable;
     Message::JoinRefuse {

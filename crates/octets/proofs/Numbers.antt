@@ -11,7 +11,7 @@ use lib.Seq.{length-take-le, drop-cons, take-add, drop-drop}
 use lib.Arith.{mod-mul, digits-div, digits-lt}
 use lib.Pow.{pow-add}
 use lib.Dec.{lit<}
-use Rattle.octets.specs.Octets.{number, octets, part, numberAt}
+use Rattle.octets.specs.Octets.{Octets, number, octets, part, numberAt}
 
 pub above-zero : (n : ℕ) → 0 < 256 ^ n
 above-zero zero = lit< tt
@@ -61,10 +61,6 @@ number-octets-mod (suc n) x =
 -- a number that fits in n octets, written and read
 pub number-octets : (n x : ℕ) → x < 256 ^ n → number (octets n x) ≡ x
 number-octets n x h = number-octets-mod n x ∙ mod-eq-of-lt h
-
--- every element is an octet
-unfoldable pub Octets : List ℕ → Type 0
-Octets s = (i : ℕ) → getD s i 0 < 256
 
 pub octets-tail : (y : ℕ) (ys : List ℕ) → Octets (y ∷ ys) → Octets ys
 unfolding Octets

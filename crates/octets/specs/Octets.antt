@@ -1,7 +1,11 @@
 -- Numbers as octets, big-endian (01, "Blocks and layouts"), and what a write into lent octets leaves (01, "Room").
-use Prim.Native.Nat.{ℕ, zero, suc, _+_, _*_, _^_, _/_, _%_}
+use Prim.Native.Nat.{ℕ, zero, suc, _+_, _*_, _^_, _/_, _%_, _<_}
 use mathlib.Core.List.{List, [], _∷_, _++_}
-use lib.ListN.{length, take, drop}
+use lib.ListN.{length, getD, take, drop}
+
+-- in the definitions octets are a list of numbers: this says that each of them is one, a number below 256. Past the end a list reads as 0
+unfoldable pub Octets : List ℕ → Type 0
+Octets s = (i : ℕ) → getD s i 0 < 256
 
 -- the number that octets spell: the first counts most
 unfoldable pub number : List ℕ → ℕ

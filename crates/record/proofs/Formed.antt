@@ -1,34 +1,28 @@
 -- What a well-formed record is, part by part and in ℕ, for the crates that step one: `formed` takes `wellFormed` apart, and `well-formed`
 -- puts it together again. Assumes nothing.
 use Prim.Native.Nat.{ℕ, zero, suc, _*_, _<_, _≤_}
-use mathlib.Core.Bool.{Bool, true, false, cond, not, _&&_, and-eq-true-iff, false≢true}
+use mathlib.Core.Bool.{Bool, true, false, cond, not, _&&_, false≢true}
 use mathlib.Core.List.{List, [], _∷_}
 use mathlib.Core.Logic.{_≢_, _↔_}
 use mathlib.Core.Path.{_≡_, refl, sym, ap, _∙_}
 use native.Mathlib.Omega.{arith}
 use lib.Dec.{eqb}
-use lib.ListN.{getD}
 use borrow.Author.Tests.{ltb-true, leb-true, eqb-true, eqb-false, lt-ltb, le-leb, eq-eqb, ne-eqb, not-true}
 use Rattle.counter.specs.Distance.{ahead}
 use Rattle.counter.specs.declared.Reliable.{Reliable}
 use Rattle.counter.proofs.Distances.{at-least, test-not-farther}
 use Rattle.record.specs.Profile.{minExpiry, nakTimeout, maxRetries}
 use Rattle.record.specs.Legal.{legalNames, legalParameters}
+use Rattle.record.specs.Places.{placeAt}
 use Rattle.record.specs.WellFormed.{mostContents, heldRight, apart, apartFrom, heldApart, heldAllRight, closed, gapRight, termsRight, wellFormed}
 use Rattle.record.specs.declared.Gap.{Gap}
 use Rattle.record.specs.declared.Gap.the-variants.{Quiet, Standoff, Waiting}
 use Rattle.record.specs.declared.Place.{Place}
 use Rattle.record.specs.declared.Terms.{Terms}
 use Rattle.record.specs.declared.Record.{Record}
+use Rattle.record.proofs.Choices.{both, and}
 
 -- ---- the parts
-
--- what is read past the last place: a free one, so that the laws ask no bound of a place's position
-abbrev pub blankPlace : Place
-blankPlace = record { used = false; total = record { 0 = 0 }; reliable = record { 0 = 0 }; len = 0 }
-
-abbrev pub placeAt : List Place → ℕ → Place
-placeAt ps i = getD ps i blankPlace
 
 -- a held wrapper with R and K: two or more ahead of R, not past K, contents that fit
 pub record Held (reliable known : ℕ) (p : Place) : Type 0 where
@@ -64,12 +58,6 @@ pub record Formed (r : Record) : Type 0 where
   pub idle : r .idle < r .terms .expiry * 1000
 
 -- ---- tests and what they say
-
-both : (a b : Bool) → a && b ≡ true → (a ≡ true) × (b ≡ true)
-both a b = and-eq-true-iff a b .0
-
-and : (a b : Bool) → a ≡ true → b ≡ true → a && b ≡ true
-and a b e f = and-eq-true-iff a b .1 (e, f)
 
 -- of what is used the test is asked, and of what is free none
 asked : (t b : Bool) → cond t b true ≡ true → t ≡ true → b ≡ true

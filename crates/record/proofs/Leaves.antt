@@ -6,20 +6,21 @@ use mathlib.Core.List.{List, [], _∷_}
 use mathlib.Core.Path.{_≡_, refl}
 use native.Mathlib.Omega.{arith}
 use lib.Dec.{ltb, leb, eqb, lit≤}
-use lib.IntN.{ℤ, pos, negsuc}
+use lib.IntN.{ℤ, pos}
 use lib.ListN.{length, getD}
-use lib.Signed.{ltZ, leZ}
+use lib.Signed.{ltZ}
 use mir.Syntax.{w32}
-use mir.Val.{toZ, ofZ, SFits}
+use mir.Val.{SFits}
 use mir.Facts.{toZ-ofZ}
 use borrow.Author.Needs.{needs, sfits-of}
-use borrow.Author.Tests.{not-true, not-false, ne-eqb, le-leb, lt-leb, lt-ltb, le-ltb, ltb-true, ltb-false, leb-true, leb-false, eqb-true, eqb-false}
+use borrow.Author.Tests.{not-true, not-false, ne-eqb, le-leb, lt-leb, lt-ltb, le-ltb, leb-true, leb-false, eqb-true, eqb-false}
 use Rattle.counter.specs.Distance.{distance}
 use Rattle.counter.specs.declared.Reliable.{Reliable}
+use Rattle.counter.proofs.Signed.{read, not-below}
 use Rattle.record.specs.Profile.{nakTimeout, maxRetries}
 use Rattle.record.specs.Legal.{legalNames, legalParameters}
 use Rattle.record.specs.Reasons.{leavingReason}
-use Rattle.record.specs.WellFormed.{heldRight, apart, apartFrom, heldApart, heldAllRight, closed, gapRight, termsRight, wellFormed}
+use Rattle.record.specs.WellFormed.{mostContents, heldRight, apart, apartFrom, heldApart, heldAllRight, closed, gapRight, termsRight, wellFormed}
 use Rattle.record.specs.declared.Gap.{Gap}
 use Rattle.record.specs.declared.Gap.the-variants.{Quiet, Standoff, Waiting}
 use Rattle.record.specs.declared.Place.{Place}
@@ -81,24 +82,6 @@ pub ruleset terms = (terms-names, terms-parameters, terms-reciprocal)
 
 -- ---- held wrappers
 
--- ≤ is what < the other way round denies
-turned : (a b : ℕ) → leb b a ≡ not (ltb a b)
-turned a b = by (ltb a b) refl
-  where
-    by : (t : Bool) → ltb a b ≡ t → leb b a ≡ not t
-    by true e = lt-leb b a (ltb-true a b e)
-    by false e = le-leb b a (ltb-false a b e)
-
-not-below : (x y : ℤ) → leZ y x ≡ not (ltZ x y)
-not-below (pos a) (pos b) = turned a b
-not-below (pos a) (negsuc b) = refl
-not-below (negsuc a) (pos b) = refl
-not-below (negsuc a) (negsuc b) = turned b a
-
--- the machine tests a signed number by its bits, `toZ w32 (ofZ w32 x)`, which is x since x fits
-abbrev read : ℤ → ℤ
-read x = toZ w32 (ofZ w32 x)
-
 module _ (r k : Reliable) (p : Place) where
   pub held-free : not (p .used) ≡ true → true ≡ heldRight r k p
   unfolding heldRight
@@ -111,14 +94,14 @@ module _ (r k : Reliable) (p : Place) where
 
     module _ (a : ltZ (read x) (pos 2) ≡ false) (y : ℤ) (g : y ≡ distance (r .0) (k .0)) (h : SFits w32 y) where
       -- up to the second test all is well
-      not-near : heldRight r k p ≡ not (ltZ y x) && leb (p .len) 1454
+      not-near : heldRight r k p ≡ not (ltZ y x) && leb (p .len) mostContents
       unfolding heldRight
       not-near = rw (not-false (p .used) u, ← e, ← g, not-below x (pos 2), simp (toZ-ofZ f) at a, not-below y x)
 
       pub held-past : ltZ (read y) (read x) ≡ true → false ≡ heldRight r k p
       held-past b = rw (not-near, simp (toZ-ofZ f, toZ-ofZ h) at b)
 
-      pub held-contents : ltZ (read y) (read x) ≡ false → leb (p .len) 1454 ≡ heldRight r k p
+      pub held-contents : ltZ (read y) (read x) ≡ false → leb (p .len) mostContents ≡ heldRight r k p
       held-contents b = rw (not-near, simp (toZ-ofZ f, toZ-ofZ h) at b)
 
 pub ruleset held = (held-free, held-near, held-past, held-contents, sfits-of)

@@ -75,7 +75,7 @@ const NAK_TIMEOUT_FACTOR: u32 = 100;
 const NAK_MAX_RETRIES: u8 = 3;
 
 // Wrapper contents are at most this many octets.
-const MOST: u16 = 1454;
+pub const MOST_CONTENTS: usize = 1454;
 
 pub fn max_retries() -> u8
     ensures { λ r. ⌜ r ≡ maxRetries ⌝ }
@@ -128,7 +128,7 @@ fn held_right(reliable: Reliable, known: Reliable, p: Place) -> bool
     if reliable_distance(reliable, known) < e {
         return false;
     }
-    p.len <= MOST
+    (p.len as usize) <= MOST_CONTENTS
 }
 
 // Two places do not hold the same reliable number.

@@ -18,7 +18,7 @@ use Rattle.joining.specs.declared.Decision.{Decision}
 use Rattle.joining.specs.declared.Decision.the-variants as decision
 use Rattle.writing.specs.Fields.{cidOctets, membershipOctets, fieldsOf}
 use Rattle.writing.specs.Writing.{carriedOf, pduOf}
-use Rattle.joining.specs.Replies.{refusal, acceptance, departure, missing}
+use Rattle.joining.specs.Replies.{joinRefuseOf, acceptance, departure, missing}
 use Rattle.sending.specs.Sent.{sentOf, replyOf, eventOf, welcomeOf, joinReplyOf}
 
 -- ---- each message
@@ -35,8 +35,8 @@ pub nak-length : (t : Terms) (r first last : Reliable) → length (sentOf (missi
 unfolding octets cidOctets membershipOctets fieldsOf carriedOf pduOf missing
 nak-length t r first last = refl
 
-pub refuse-length : (owner : Cid) (j : Join) (reason : ℕ) → length (sentOf (refusal owner j reason)) ≡ 28
-unfolding octets cidOctets membershipOctets fieldsOf carriedOf pduOf refusal
+pub refuse-length : (owner : Cid) (j : Join) (reason : ℕ) → length (sentOf (joinRefuseOf owner j reason)) ≡ 28
+unfolding octets cidOctets membershipOctets fieldsOf carriedOf pduOf joinRefuseOf
 refuse-length owner j reason = refl
 
 pub accept-length : (owner : Cid) (j : Join) (r : Reliable) (n : ℕ) → length (sentOf (acceptance owner j r n)) ≡ 29
@@ -63,7 +63,7 @@ event-within t (event.Nak r first last outbound) = lit≤ tt
 event-within t (event.Leaving reason r) = lit≤ tt
 
 pub join-reply-within : (owner : Cid) (j : Join) (n : ℕ) (x : Decision) → length (joinReplyOf owner j n x) ≤ 64
-unfolding octets cidOctets membershipOctets fieldsOf carriedOf pduOf refusal acceptance welcomeOf joinReplyOf
+unfolding octets cidOctets membershipOctets fieldsOf carriedOf pduOf joinRefuseOf acceptance welcomeOf joinReplyOf
 join-reply-within owner j n (decision.Refuse reason) = lit≤ tt
 join-reply-within owner j n (decision.Again r kept) = lit≤ tt
 join-reply-within owner j n (decision.Make p) = lit≤ tt

@@ -12,7 +12,7 @@ use Rattle.message.specs.declared.Join.{Join}
 use Rattle.message.specs.declared.Message.{Message}
 use Rattle.message.specs.declared.Message.the-variants as message
 use Rattle.record.specs.declared.Terms.{Terms}
-use Rattle.joining.specs.Replies.{refusal, acceptance, departure, missing}
+use Rattle.joining.specs.Replies.{joinRefuseOf, acceptance, departure, missing}
 use Rattle.writing.specs.Writing.{addressOf, hasForm}
 use Rattle.sending.specs.Sent.{sentOf, welcomeOf}
 use Rattle.sending.proofs.Lengths.{ack-length, leaving-length, nak-length, refuse-length, accept-length}
@@ -37,8 +37,8 @@ module _ (m : Message) (k : ℕ) (h : 64 ≤ k) where
   unfolding hasForm addressOf missing
   nak-fits t r first last e = rw e (refl, omega (arith, nak-length t r first last))
 
-  pub refuse-fits : (owner : Cid) (j : Join) (reason : ℕ) → m ≡ refusal owner j reason → Fits m k
-  unfolding hasForm addressOf refusal
+  pub refuse-fits : (owner : Cid) (j : Join) (reason : ℕ) → m ≡ joinRefuseOf owner j reason → Fits m k
+  unfolding hasForm addressOf joinRefuseOf
   refuse-fits owner j reason e = rw e (refl, omega (arith, refuse-length owner j reason))
 
   pub accept-fits : (owner : Cid) (j : Join) (r : Reliable) (n : ℕ) → m ≡ acceptance owner j r n → Fits m k

@@ -11,7 +11,7 @@ use Rattle.gap.specs.declared.Event.{Event}
 use Rattle.gap.specs.declared.Event.the-variants as event
 use Rattle.wrapper.specs.declared.Reply.{Reply}
 use Rattle.wrapper.specs.declared.Reply.the-variants as reply
-use Rattle.joining.specs.Replies.{refusal, acceptance, departure, missing}
+use Rattle.joining.specs.Replies.{joinRefuseOf, acceptance, departure, missing}
 use Rattle.joining.specs.declared.Decision.{Decision}
 use Rattle.joining.specs.declared.Decision.the-variants as decision
 
@@ -37,6 +37,6 @@ welcomeOf owner j n = sentOf (acceptance owner j (j .reliable) n) ++ sentOf (mes
 
 -- the reply to a Join
 unfoldable pub joinReplyOf : Cid → Join → ℕ → Decision → List ℕ
-joinReplyOf owner j n (decision.Refuse reason) = sentOf (refusal owner j reason)
+joinReplyOf owner j n (decision.Refuse reason) = sentOf (joinRefuseOf owner j reason)
 joinReplyOf owner j n (decision.Again r reciprocal) = sentOf (acceptance owner j r reciprocal)
 joinReplyOf owner j n (decision.Make p) = welcomeOf owner j n

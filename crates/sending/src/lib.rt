@@ -6,7 +6,7 @@ ghost use lib.ListN.{length};
 ghost use Rattle.octets.specs.Octets.{splice};
 ghost use Rattle.message.specs.declared.Message.the-variants as message;
 ghost use Rattle.writing.specs.Writing.{hasForm};
-ghost use Rattle.joining.specs.Replies.{refusal, acceptance, departure, missing};
+ghost use Rattle.joining.specs.Replies.{joinRefuseOf, acceptance, departure, missing};
 ghost use Rattle.sending.specs.Sent.{sentOf, replyOf, eventOf, welcomeOf, joinReplyOf};
 use counter::Reliable;
 use gap::Event;
@@ -57,11 +57,11 @@ fn put_nak(
     put_message(room, joining::nak_of(terms, reliable, first, last))
 }
 
-fn put_refusal(room: &mut [u8], owner: Cid, j: Join, reason: u8) -> usize
+fn put_join_refuse(room: &mut [u8], owner: Cid, j: Join, reason: u8) -> usize
     requires { ⌜ 64 ≤ length (now room) ⌝ }
-    ensures { λ n. ⌜ (n ≡ length (sentOf (refusal owner j reason))) × (now (room .exit) ≡ splice (now (room .entry)) 0 (sentOf (refusal owner j reason))) ⌝ }
+    ensures { λ n. ⌜ (n ≡ length (sentOf (joinRefuseOf owner j reason))) × (now (room .exit) ≡ splice (now (room .entry)) 0 (sentOf (joinRefuseOf owner j reason))) ⌝ }
 {
-    put_message(room, joining::refusal_of(owner, j, reason))
+    put_message(room, joining::join_refuse_of(owner, j, reason))
 }
 
 fn put_acceptance(
@@ -130,7 +130,7 @@ pub fn put_join_reply(
     ensures { λ n. ⌜ (n ≡ length (joinReplyOf owner j reciprocal decision)) × (now (room .exit) ≡ splice (now (room .entry)) 0 (joinReplyOf owner j reciprocal decision)) ⌝ }
 {
     match decision {
-        Decision::Refuse(reason) => put_refusal(room, owner, j, reason),
+        Decision::Refuse(reason) => put_join_refuse(room, owner, j, reason),
         Decision::Again {
             reliable,
             reciprocal: kept,

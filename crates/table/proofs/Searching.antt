@@ -12,8 +12,7 @@ use borrow.Author.Tests.{not-true, not-false, ne-eqb, eq-eqb}
 use Rattle.message.specs.declared.Cid.{Cid}
 use Rattle.record.specs.WellFormed.{wellFormed}
 use Rattle.record.specs.declared.Record.{Record}
-use Rattle.table.specs.Table.{same, named, found, lowestFree, differs, tableFormed}
-use Rattle.table.specs.declared.Found.the-variants.{At, Nowhere}
+use Rattle.table.specs.Table.{same, named, differs, tableFormed}
 
 -- ---- an owner and a channel
 
@@ -43,53 +42,6 @@ module _ (o : Cid) (c : ℕ) (r : Record) where
     named-channel f = rw (not-false (r .used) u, ← e, not-false t f)
 
 pub ruleset names = (named-free, named-owner, named-channel)
-
--- ---- the record of an owner and a channel
-
-module _ (o : Cid) (c : ℕ) (ts : List Record) (i : ℕ) (l : length ts ≡ 8) (so-far : found 0 o c ts ≡ found i o c (drop i ts)) where
-  module _ (d : Record) (h : i < 8) (b : Bool) (e : b ≡ named o c (getD ts i d)) where
-    pub found-here : b ≡ true → At i ≡ found 0 o c ts
-    unfolding found
-    found-here t = rw (so-far, drop-cons ts i d (omega arith), ← e, t)
-
-    pub found-on : b ≡ false → found 0 o c ts ≡ found (i + 1) o c (drop (i + 1) ts)
-    unfolding found
-    found-on t = rw (so-far, drop-cons ts i d (omega arith), ← e, t, add-one i)
-
-  pub found-none : 8 ≤ i → Nowhere ≡ found 0 o c ts
-  unfolding found
-  found-none h =
-      let none : length ts ≤ i = omega arith in
-      rw (so-far, drop-of-length-le ts none)
-
--- ---- the lowest free record
-
-module _ (ts : List Record) (i : ℕ) (l : length ts ≡ 8) (so-far : lowestFree 0 ts ≡ lowestFree i (drop i ts)) where
-  module _ (d : Record) (h : i < 8) where
-    pub free-here : not (getD ts i d .used) ≡ true → At i ≡ lowestFree 0 ts
-    unfolding lowestFree
-    free-here u = rw (so-far, drop-cons ts i d (omega arith), not-true (getD ts i d .used) u)
-
-    pub free-on : not (getD ts i d .used) ≡ false → lowestFree 0 ts ≡ lowestFree (i + 1) (drop (i + 1) ts)
-    unfolding lowestFree
-    free-on u = rw (so-far, drop-cons ts i d (omega arith), not-false (getD ts i d .used) u, add-one i)
-
-  pub free-none : 8 ≤ i → Nowhere ≡ lowestFree 0 ts
-  unfolding lowestFree
-  free-none h =
-      let none : length ts ≤ i = omega arith in
-      rw (so-far, drop-of-length-le ts none)
-
--- what a search answers is one of the eight records, or none
-pub one-of-eight : (j : ℕ) → j < 8 → (i : ℕ) → At j ≡ At i → i < 8
-one-of-eight j h i e =
-    let same : j ≡ i = cc in
-    omega arith
-
-pub none-of-eight : (i : ℕ) → Nowhere ≡ At i → i < 8
-none-of-eight i e =
-    let z : _≡_ {A = ℕ} 0 1 = cc in
-    omega arith
 
 -- ---- records that differ from r
 

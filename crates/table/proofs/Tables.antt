@@ -2,18 +2,19 @@
 -- again; what storing a record at a place keeps; and that in a well-formed table the search finds the one record of an owner and a channel.
 -- Assumes nothing.
 use Prim.Native.Nat.{ℕ, zero, suc, _<_}
-use mathlib.Core.Bool.{Bool, true, false, not, _&&_, and-eq-true-iff, false≢true}
+use mathlib.Core.Bool.{Bool, true, false, not, _&&_, false≢true}
 use mathlib.Core.List.{List, [], _∷_}
-use mathlib.Core.Logic.{_≢_, _⊎_, inl, inr}
+use mathlib.Core.Logic.{_≢_, inl, inr}
 use mathlib.Core.Path.{_≡_, refl, sym, ap, _∙_}
 use native.Mathlib.Omega.{arith}
-use lib.Dec.{eqb}
 use lib.ListN.{length, set}
 use lib.Seq.{getD-set-same, getD-set-other}
-use borrow.Author.Tests.{eqb-true, eqb-false, eq-eqb}
+use borrow.Author.Tests.{eqb-true, eq-eqb}
 use Rattle.message.specs.declared.Cid.{Cid}
 use Rattle.record.specs.WellFormed.{wellFormed}
 use Rattle.record.specs.declared.Record.{Record}
+use Rattle.record.proofs.Choices.{both, and}
+use Rattle.record.proofs.Stored.{Stored, stored}
 use Rattle.record.proofs.Formed.{free-formed}
 use Rattle.table.specs.Table.{same, named, found, differs, tableFormed, freeTable, blank, recordAt}
 use Rattle.table.specs.declared.Found.{Found}
@@ -27,12 +28,6 @@ pub record TableFormed (ts : List Record) : Type 0 where
   pub differ : (o : Cid) (c : ℕ) (i j : ℕ) → named o c (recordAt ts i) ≡ true → named o c (recordAt ts j) ≡ true → i ≡ j
 
 -- ---- an owner and a channel
-
-both : (a b : Bool) → a && b ≡ true → (a ≡ true) × (b ≡ true)
-both a b = and-eq-true-iff a b .0
-
-and : (a b : Bool) → a ≡ true → b ≡ true → a && b ≡ true
-and a b e f = and-eq-true-iff a b .1 (e, f)
 
 pub same-is : (a b : Cid) → same a b ≡ true → a ≡ b
 unfolding same
@@ -142,18 +137,14 @@ module _ (ts : List Record) (i : ℕ) (r : Record) where
 
   -- what stands at j after it: the record stored, or what stood there
   abbrev pub Stands : ℕ → Type 0
-  Stands j = ((i ≡ j) × (recordAt (set ts i r) j ≡ r)) ⊎ ((i ≢ j) × (recordAt (set ts i r) j ≡ recordAt ts j))
+  Stands j = Stored (blank []) ts i r j
 
   module _ (h : i < length ts) where
     pub set-here : recordAt (set ts i r) i ≡ r
     set-here = getD-set-same ts i r (blank []) h
 
     pub set-at : (j : ℕ) → Stands j
-    set-at j = by (eqb i j) refl
-      where
-        by : (b : Bool) → eqb i j ≡ b → Stands j
-        by true e = let q = eqb-true i j e in inl (q, rw (← q) set-here)
-        by false e = let n = eqb-false i j e in inr (n, set-there j n)
+    set-at j = stored (blank []) ts i r j (λ e. h)
 
     module _ (f : TableFormed ts) where
       -- a well-formed record that has its owner and channel in common with none but the one that it replaces

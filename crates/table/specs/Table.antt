@@ -1,11 +1,13 @@
 -- The table of eight records (01, "Room", "Refusal numbers" and the end of "One channel"): which record has an owner and channel, which one is
 -- free, and when the whole table is well formed.
-use Prim.Native.Nat.{ℕ, _+_}
-use mathlib.Core.Bool.{Bool, true, false, cond, not, _&&_}
+use Prim.Native.Nat.{ℕ}
+use mathlib.Core.Bool.{Bool, true, false, not, _&&_}
 use mathlib.Core.List.{List, [], _∷_}
 use lib.ListN.{getD, replicate}
 use lib.Dec.{eqb}
 use Rattle.message.specs.declared.Cid.{Cid}
+use Rattle.record.specs.Lowest.{lowest}
+use Rattle.record.specs.Places.{noPlace}
 use Rattle.record.specs.WellFormed.{wellFormed}
 use Rattle.record.specs.declared.Gap.the-variants as gap
 use Rattle.record.specs.declared.Place.{Place}
@@ -24,13 +26,14 @@ named owner channel r = r .used && same (r .terms .owner) owner && eqb (r .terms
 
 -- the record of this owner and channel, of records that are counted from i on
 unfoldable pub found : ℕ → Cid → ℕ → List Record → Found
-found i owner channel [] = search.Nowhere
-found i owner channel (r ∷ rs) = cond (named owner channel r) (search.At i) (found (i + 1) owner channel rs)
+found i owner channel rs = lowest (named owner channel) search.At search.Nowhere i rs
+
+abbrev pub isFree : Record → Bool
+isFree r = not (r .used)
 
 -- the lowest free one of records that are counted from i on
 unfoldable pub lowestFree : ℕ → List Record → Found
-lowestFree i [] = search.Nowhere
-lowestFree i (r ∷ rs) = cond (r .used) (lowestFree (i + 1) rs) (search.At i)
+lowestFree i rs = lowest isFree search.At search.Nowhere i rs
 
 -- if r is used, none of these records has its owner and channel
 unfoldable pub differs : Record → List Record → Bool
@@ -73,12 +76,9 @@ blank ps =
       places = ps;
     }
 
-abbrev pub freshPlace : Place
-freshPlace = record { used = false; total = record { 0 = 0 }; reliable = record { 0 = 0 }; len = 0 }
-
 -- eight free records
 unfoldable pub freeTable : List Record
-freeTable = replicate 8 (blank (replicate 4 freshPlace))
+freeTable = replicate 8 (blank (replicate 4 noPlace))
 
 -- ---- a record by its place
 

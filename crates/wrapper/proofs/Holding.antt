@@ -2,31 +2,37 @@
 use Prim.Native.Nat.{ℕ, _+_, _<_, _≤_}
 use mathlib.Core.Bool.{Bool, true, false, not}
 use mathlib.Core.List.{List}
-use mathlib.Core.Path.{_≡_}
+use mathlib.Core.Path.{_≡_, refl}
 use native.Mathlib.Numerals.{add-one}
 use native.Mathlib.Omega.{arith}
 use lib.Dec.{eqb, lit<}
-use lib.IntN.{ℤ}
+use lib.IntN.{ℤ, pos, negsuc}
 use lib.ListN.{length, getD, set, drop, drop-of-length-le}
 use lib.Seq.{drop-cons}
 use mir.Syntax.{w32}
 use mir.Val.{ofZ, SFits}
 use borrow.Author.Needs.{sfits-of}
-use borrow.Author.Tests.{not-true, not-false}
+use borrow.Author.Tests.{not-true, not-false, ne-eqb}
 use Rattle.counter.specs.Distance.{distance}
 use Rattle.counter.specs.declared.Reliable.{Reliable}
 use Rattle.record.specs.With.{withNumbers, withPlaces}
 use Rattle.record.specs.declared.Place.{Place}
 use Rattle.record.specs.declared.Record.{Record}
-use Rattle.wrapper.specs.Hold.{nextOne, holds, lowestFree, placeFor, heldAs, placed}
+use Rattle.record.proofs.Choices.{never}
+use Rattle.record.proofs.Lowest.{Tells}
+use Rattle.wrapper.specs.Hold.{is, nextOne, holds, lowestFree, placeFor, heldAs, placed}
 use Rattle.wrapper.specs.declared.Arrived.{Arrived}
 use Rattle.wrapper.specs.declared.Placed.{Placed}
 use Rattle.wrapper.specs.declared.Search.{Search}
 use Rattle.wrapper.specs.declared.Search.the-variants.{At, Nowhere}
 use Rattle.wrapper.specs.declared.Fate.the-variants as fate
-use Rattle.wrapper.proofs.Signed.{bits-are}
 
 -- ---- the next one
+
+-- bits that are those of n are the number n
+pub bits-are : (n : ℕ) (z : ℤ) → n < 2147483648 → SFits w32 z → eqb (ofZ w32 z) n ≡ is n z
+bits-are n (pos m) h f = refl
+bits-are n (negsuc m) h f = let g : m < 2147483648 = f .sfits in ne-eqb (ofZ w32 (negsuc m)) n (λ e. omega arith)
 
 module _ (r : Record) (w : Arrived) (x : ℤ) (e : x ≡ distance (r .reliable .0) (w .reliable .0)) (f : SFits w32 x) where
   pub next-reliable : w .reliably ≡ true → eqb (ofZ w32 x) 1 ≡ nextOne r w
@@ -62,34 +68,11 @@ module _ (n : Reliable) (ps : List Place) (i : ℕ) (l : length ps ≡ 4) (so-fa
       let none : length ps ≤ i = omega arith in
       rw (so-far, drop-of-length-le ps none)
 
--- ---- the lowest free place
+-- ---- a place that is searched for
 
-module _ (ps : List Place) (i : ℕ) (l : length ps ≡ 4) (so-far : lowestFree 0 ps ≡ lowestFree i (drop i ps)) where
-  module _ (d : Place) (h : i < 4) where
-    pub free-here : not (getD ps i d .used) ≡ true → At i ≡ lowestFree 0 ps
-    unfolding lowestFree
-    free-here u = rw (so-far, drop-cons ps i d (omega arith), not-true (getD ps i d .used) u)
-
-    pub free-on : not (getD ps i d .used) ≡ false → lowestFree 0 ps ≡ lowestFree (i + 1) (drop (i + 1) ps)
-    unfolding lowestFree
-    free-on u = rw (so-far, drop-cons ps i d (omega arith), not-false (getD ps i d .used) u, add-one i)
-
-  pub free-nowhere : 4 ≤ i → Nowhere ≡ lowestFree 0 ps
-  unfolding lowestFree
-  free-nowhere h =
-      let none : length ps ≤ i = omega arith in
-      rw (so-far, drop-of-length-le ps none)
-
--- what a search answers is one of the four places, or none
-pub one-of-four : (j : ℕ) → j < 4 → (i : ℕ) → At j ≡ At i → i < 4
-one-of-four j h i e =
-    let same : j ≡ i = cc in
-    omega arith
-
-pub none-of-four : (i : ℕ) → Nowhere ≡ At i → i < 4
-none-of-four i e =
-    let z : _≡_ {A = ℕ} 0 1 = cc in
-    omega arith
+-- a place that is found tells its number
+pub tells : Tells At Nowhere
+tells = record { one = λ i j e. cc; none = λ i e. never (cc) }
 
 -- ---- where a wrapper is held
 

@@ -7,7 +7,7 @@ use mathlib.Core.Path.{_≡_, refl, sym, ap, _∙_}
 use native.Mathlib.Numerals.{add-one}
 use native.Mathlib.Omega.{arith}
 use lib.IntN.{ℤ, pos, negsuc}
-use lib.ListN.{length, getD, take, length-set}
+use lib.ListN.{length, take, length-set}
 use lib.Seq.{take-suc-set}
 use lib.Signed.{leZ}
 use borrow.Author.Tests.{eqb-true, le-leb}
@@ -18,16 +18,17 @@ use Rattle.record.specs.Reasons.{lostSequence}
 use Rattle.record.specs.WellFormed.{closed}
 use Rattle.record.specs.With.{freed, withNumbers, withAcked, withGap}
 use Rattle.record.specs.declared.Gap.the-variants as gap
-use Rattle.record.specs.declared.Place.{Place}
 use Rattle.record.specs.declared.Record.{Record}
+use Rattle.record.proofs.Choices.{either}
 use Rattle.gap.specs.Standoff.{standoffOf}
 use Rattle.wrapper.specs.Judge.{consistent, judgedBy, judged, heard}
 use Rattle.wrapper.specs.Hold.{is, nextOne, placeFor, heldAs, putIn, placed}
-use Rattle.wrapper.specs.Release.{nextHeld, noPlace, passes, releaseBy, releaseAt, released}
+use Rattle.wrapper.specs.Release.{nextHeld, passes, releaseBy, releaseAt, released}
 use Rattle.wrapper.specs.Settle.{lost, begun, gapped, asked, spared, acknowledged, settled}
 use Rattle.wrapper.specs.Taken.{taken}
+use Rattle.wrapper.specs.Since.{Since}
+use Rattle.wrapper.specs.InTurn.{Delivery, itself, heldIn, deliveries, InTurn}
 use Rattle.wrapper.specs.declared.Arrived.{Arrived}
-use Rattle.wrapper.specs.declared.Fate.{Fate}
 use Rattle.wrapper.specs.declared.Fate.the-variants as fate
 use Rattle.wrapper.specs.declared.Gapped.{Gapped}
 use Rattle.wrapper.specs.declared.Judged.{Judged}
@@ -39,38 +40,9 @@ use Rattle.wrapper.specs.declared.Search.{Search}
 use Rattle.wrapper.specs.declared.Search.the-variants.{At, Nowhere}
 use Rattle.wrapper.specs.declared.Settled.{Settled}
 use Rattle.wrapper.proofs.Releasing.{heldAt, passing, release-is, along}
-use Rattle.wrapper.proofs.ReleaseIsDone.{Since, since-start, since-more, untouched, count-below, found-next}
+use Rattle.wrapper.proofs.ReleaseIsDone.{since-start, since-more, untouched, count-below, found-next}
 
 -- ---- deliveries
-
-pub record Delivery : Type 0 where
-  pub reliably : Bool
-  pub total : Total
-  pub reliable : Reliable
-
--- the wrapper itself, if it is delivered
-abbrev pub itself : Fate → Arrived → List Delivery
-itself fate.Delivered w = record { reliably = w .reliably; total = w .total; reliable = w .reliable } ∷ []
-itself (fate.Held i) w = []
-itself fate.Dropped w = []
-
--- what a place holds, which is a reliable one
-abbrev pub heldIn : List Place → ℕ → Delivery
-heldIn ps i = record { reliably = true; total = getD ps i noPlace .total; reliable = getD ps i noPlace .reliable }
-
--- all that a step delivers, in its order: held ones are in the places that step 3 leaves
-abbrev pub deliveries : Record → Arrived → List Delivery
-deliveries r w =
-    itself (taken r w .fate) w
-    ++ map (heldIn (placed (heard r (w .reliable)) w .after .places)) (take (taken r w .count) (taken r w .order))
-
--- from T = t and R = n the deliveries come in turn, and leave T = u and R = m
-abbrev pub InTurn : Total → Reliable → List Delivery → Total → Reliable → Type 0
-InTurn t n [] u m = (t ≡ u) × (n ≡ m)
-InTurn t n (d ∷ ds) u m =
-    (distance (n .0) (d .reliable .0) ≡ pos (cond (d .reliably) 1 0))
-    × (leZ (pos 1) (distance (t .0) (d .total .0)) ≡ true)
-    × InTurn (d .total) (d .reliable) ds u m
 
 -- one more in turn behind the others
 one-more-in-turn : (t : Total) (n : Reliable) (ds : List Delivery) (u : Total) (m : Reliable) (d : Delivery) → InTurn t n ds u m
@@ -174,11 +146,6 @@ module _ (r : Record) (four : length (r .places) ≡ 4) (t : Total) (n : Reliabl
   released-in-turn h = along (λ s. Since r s × So-far s) in-turn-more 4 _ (since-start r, rw (append-nil ds) h) .1
 
 -- ---- steps 5 and 6 let T and R stand
-
--- what holds of either side of a choice
-either : {A : Type 0} (P : A → Type 0) (b : Bool) (x y : A) → P x → P y → P (cond b x y)
-either P true x y p q = p
-either P false x y p q = q
 
 abbrev Numbers : Record → Record → Type 0
 Numbers r s = (s .total ≡ r .total) × (s .reliable ≡ r .reliable)

@@ -1,6 +1,7 @@
 -- The leaves of steps 1 and 2, over plain variables, each from the facts that lead there. `search` finds those facts where a function
 -- returns. Assumes nothing.
-use mathlib.Core.Bool.{Bool, true, false}
+use Prim.Native.Nat.{ℕ}
+use mathlib.Core.Bool.{Bool, true, false, cond, not, _&&_}
 use mathlib.Core.Path.{_≡_}
 use lib.IntN.{ℤ, pos}
 use lib.Signed.{ltZ, leZ}
@@ -11,55 +12,45 @@ use borrow.Author.Needs.{sfits-of}
 use Rattle.counter.specs.Distance.{distance}
 use Rattle.counter.specs.declared.Total.{Total}
 use Rattle.counter.specs.declared.Reliable.{Reliable}
+use Rattle.counter.proofs.Signed.{read, not-below}
 use Rattle.record.specs.With.{withKnown, withIdle}
 use Rattle.record.specs.declared.Record.{Record}
 use Rattle.wrapper.specs.Judge.{consistent, judgedBy, judged, farther, heard}
 use Rattle.wrapper.specs.declared.Judged.{Judged}
 use Rattle.wrapper.specs.declared.Judged.the-variants.{Old, Inconsistent, Fresh}
-use Rattle.wrapper.proofs.Signed.{read, not-below, not-above}
 
 -- ---- step 1
+
+-- consistent as the code asks: first whether it is far enough ahead, and then whether it is not too far
+consistent-is : (s : Bool) (d e : ℤ) → consistent s d e ≡ not (ltZ e (pos (cond s 1 0))) && cond s (leZ e d) (ltZ e d)
+unfolding consistent
+consistent-is true d e = rw (not-below e (pos 1))
+consistent-is false d e = rw (not-below e (pos 0))
+
+-- with the least number that e may be
+module _ (s : Bool) (d e : ℤ) (least : ℕ) (m : cond s 1 0 ≡ least) (g : SFits w32 e) where
+  pub consistent-behind : ltZ (read e) (pos least) ≡ true → false ≡ consistent s d e
+  consistent-behind u = rw (consistent-is s d e, m, simp (toZ-ofZ g) at u)
+
+  pub consistent-within : (b : Bool) → ltZ (read e) (pos least) ≡ false → SFits w32 d → b ≡ cond s (leZ (read e) (read d)) (ltZ (read e) (read d))
+      → b ≡ consistent s d e
+  consistent-within b u f h = rw (consistent-is s d e, m, simp (toZ-ofZ g) at u) (simp (toZ-ofZ f, toZ-ofZ g) at h)
 
 module _ (s : Bool) (d e : ℤ) (f : SFits w32 d) where
   pub judged-old : leZ (read d) (pos 0) ≡ true → Old ≡ judgedBy s d e
   unfolding judgedBy
   judged-old a = rw (simp (toZ-ofZ f) at a)
 
-  module _ (a : leZ (read d) (pos 0) ≡ false) (g : SFits w32 e) where
-    module _ (t : s ≡ true) where
-      pub reliable-behind : ltZ (read e) (pos 1) ≡ true → Inconsistent ≡ judgedBy s d e
-      unfolding judgedBy consistent
-      reliable-behind u = rw (t, simp (toZ-ofZ f) at a, not-below e (pos 1), simp (toZ-ofZ g) at u)
+  module _ (a : leZ (read d) (pos 0) ≡ false) (g : SFits w32 e) (b : Bool) (h : b ≡ consistent s (read d) (read e)) where
+    pub judged-fresh : b ≡ true → Fresh ≡ judgedBy s d e
+    unfolding judgedBy
+    judged-fresh t = rw (simp (toZ-ofZ f) at a, ← simp (toZ-ofZ f, toZ-ofZ g) at h, t)
 
-      module _ (u : ltZ (read e) (pos 1) ≡ false) where
-        pub reliable-past : ltZ (read d) (read e) ≡ true → Inconsistent ≡ judgedBy s d e
-        unfolding judgedBy consistent
-        reliable-past v =
-            rw (t, simp (toZ-ofZ f) at a, not-below e (pos 1), simp (toZ-ofZ g) at u, not-below d e, simp (toZ-ofZ f, toZ-ofZ g) at v)
+    pub judged-inconsistent : b ≡ false → Inconsistent ≡ judgedBy s d e
+    unfolding judgedBy
+    judged-inconsistent t = rw (simp (toZ-ofZ f) at a, ← simp (toZ-ofZ f, toZ-ofZ g) at h, t)
 
-        pub reliable-fresh : ltZ (read d) (read e) ≡ false → Fresh ≡ judgedBy s d e
-        unfolding judgedBy consistent
-        reliable-fresh v =
-            rw (t, simp (toZ-ofZ f) at a, not-below e (pos 1), simp (toZ-ofZ g) at u, not-below d e, simp (toZ-ofZ f, toZ-ofZ g) at v)
-
-    module _ (t : s ≡ false) where
-      pub unreliable-behind : ltZ (read e) (pos 0) ≡ true → Inconsistent ≡ judgedBy s d e
-      unfolding judgedBy consistent
-      unreliable-behind u = rw (t, simp (toZ-ofZ f) at a, not-below e (pos 0), simp (toZ-ofZ g) at u)
-
-      module _ (u : ltZ (read e) (pos 0) ≡ false) where
-        pub unreliable-past : leZ (read d) (read e) ≡ true → Inconsistent ≡ judgedBy s d e
-        unfolding judgedBy consistent
-        unreliable-past v =
-            rw (t, simp (toZ-ofZ f) at a, not-below e (pos 0), simp (toZ-ofZ g) at u, not-above d e, simp (toZ-ofZ f, toZ-ofZ g) at v)
-
-        pub unreliable-fresh : leZ (read d) (read e) ≡ false → Fresh ≡ judgedBy s d e
-        unfolding judgedBy consistent
-        unreliable-fresh v =
-            rw (t, simp (toZ-ofZ f) at a, not-below e (pos 0), simp (toZ-ofZ g) at u, not-above d e, simp (toZ-ofZ f, toZ-ofZ g) at v)
-
-pub ruleset verdicts =
-    (judged-old, reliable-behind, reliable-past, reliable-fresh, unreliable-behind, unreliable-past, unreliable-fresh, sfits-of)
+pub ruleset verdicts = (judged-old, judged-fresh, judged-inconsistent, sfits-of)
 
 pub judged-so : (r : Record) (s : Bool) (t : Total) (n : Reliable) (x y : ℤ) (j : Judged) → x ≡ distance (r .total .0) (t .0)
     → y ≡ distance (r .reliable .0) (n .0) → SFits w32 x → SFits w32 y → j ≡ judgedBy s (read x) (read y) → j ≡ judged r s t n

@@ -1,5 +1,4 @@
 -- What the proofs of `wrapper` share, and the laws of a step.
-pub mod Signed
 pub mod Judging
 pub mod Holding
 pub mod Releasing

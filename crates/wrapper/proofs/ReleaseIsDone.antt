@@ -11,54 +11,33 @@ use lib.ListN.{length, getD, set, length-set}
 use lib.Seq.{getD-set-same, getD-set-other}
 use borrow.Author.Tests.{eqb-true, eqb-false}
 use Rattle.counter.specs.declared.Reliable.{Reliable}
+use Rattle.record.specs.Places.{noPlace, placeAt}
 use Rattle.record.specs.With.{freePlace}
 use Rattle.record.specs.declared.Place.{Place}
 use Rattle.record.specs.declared.Record.{Record}
-use Rattle.wrapper.specs.Release.{isNext, nextHeld, noPlace, releaseBy, releaseAt, releaseFrom, released}
+use Rattle.record.proofs.Lowest.{lowest-is}
+use Rattle.wrapper.specs.Release.{isNext, nextHeld, releaseBy, releaseAt, releaseFrom, released}
+use Rattle.wrapper.specs.Since.{usedIn, Freed, Since}
 use Rattle.wrapper.specs.declared.Search.{Search}
 use Rattle.wrapper.specs.declared.Search.the-variants.{At, Nowhere}
 use Rattle.wrapper.specs.declared.Released.{Released}
+use Rattle.wrapper.proofs.Holding.{tells}
 use Rattle.wrapper.proofs.Releasing.{heldAt, passing, release-is, along, no-more, one-more}
 
 -- ---- the place that is found
 
-next-cons : (r : Reliable) (k : ℕ) (p : Place) (ps : List Place) (i : ℕ) (b : Bool) → isNext r p ≡ b → nextHeld r k (p ∷ ps) ≡ At i
-    → (nextHeld r (k + 1) ps ≡ At i → (j : ℕ) × (i ≡ k + 1 + j) × (j < length ps) × (isNext r (getD ps j noPlace) ≡ true))
-    → (j : ℕ) × (i ≡ k + j) × (j < length (p ∷ ps)) × (isNext r (getD (p ∷ ps) j noPlace) ≡ true)
-unfolding nextHeld
-next-cons r k p ps i true u e later =
-    let here : At k ≡ At i = rw u at e in
-    let same : k ≡ i = cc in
-    (0, omega arith, omega arith, u)
-next-cons r k p ps i false u e later =
-    let on : nextHeld r (k + 1) ps ≡ At i = rw u at e in
-    let f = later on in
-    (suc (f .0), omega arith, omega arith, f .3)
-
-next-found : (r : Reliable) (k : ℕ) (ps : List Place) (i : ℕ) → nextHeld r k ps ≡ At i
-    → (j : ℕ) × (i ≡ k + j) × (j < length ps) × (isNext r (getD ps j noPlace) ≡ true)
-unfolding nextHeld
-next-found r k [] i e =
-    let z : _≡_ {A = ℕ} 0 1 = cc in
-    absurd (omega arith)
-next-found r k (p ∷ ps) i e = next-cons r k p ps i (isNext r p) refl e (next-found r (k + 1) ps i)
-
 -- it is a used one of the places, and holds a wrapper that is next
 pub found-next : (s : Released) (i : ℕ) → nextHeld (s .after .reliable) 0 (s .after .places) ≡ At i
     → (i < length (s .after .places)) × (isNext (s .after .reliable) (heldAt s i) ≡ true)
+unfolding nextHeld
 found-next s i e =
-    let f = next-found (s .after .reliable) 0 (s .after .places) i e in
-    let same : f .0 ≡ i = omega arith in
-    (omega arith, rw same at (f .3))
+    let f = lowest-is (isNext (s .after .reliable)) At Nowhere tells noPlace (s .after .places) i e in
+    (f .0, f .1)
 
 pub next-used : (r : Reliable) (p : Place) → isNext r p ≡ true → p .used ≡ true
 next-used r p e = and-eq-true-iff (p .used) _ .0 e .0
 
 -- ---- how many places are used
-
-abbrev pub usedIn : List Place → ℕ
-usedIn [] = 0
-usedIn (p ∷ ps) = cond (p .used) (suc (usedIn ps)) (usedIn ps)
 
 used-within : (ps : List Place) → usedIn ps ≤ length ps
 used-within [] = omega arith
@@ -69,7 +48,7 @@ used-within (p ∷ ps) = by (p .used) (used-within ps)
     by false h = omega arith
 
 -- a used place that becomes a free one is one fewer
-used-set : (ps : List Place) (i : ℕ) (q : Place) → i < length ps → getD ps i noPlace .used ≡ true → q .used ≡ false
+used-set : (ps : List Place) (i : ℕ) (q : Place) → i < length ps → placeAt ps i .used ≡ true → q .used ≡ false
     → suc (usedIn (set ps i q)) ≡ usedIn ps
 used-set [] i q h u v = absurd (omega arith)
 used-set (p ∷ ps) zero q h u v = rw (u, v)
@@ -132,26 +111,12 @@ release-is-done r l = none-left 4 _ (omega (arith, used-within (r .places)))
 
 -- ---- the places afterwards
 
--- a place that held p and was freed is q
-abbrev pub Freed : Place → Place → Type 0
-Freed p q = (p .used ≡ true) × (q ≡ freePlace p)
-
 module _ (r : Record) where
   abbrev before : ℕ → Place
-  before i = getD (r .places) i noPlace
-
-  -- what the releases up to s made of the places of r: each stands or was freed, those of the order were freed and are no place twice, and
-  -- as many were freed as were delivered or thrown out
-  pub record Since (s : Released) : Type 0 where
-    pub places : length (s .after .places) ≡ length (r .places)
-    pub room : length (s .order) ≡ 4
-    pub each : (i : ℕ) → (heldAt s i ≡ before i) ⊎ Freed (before i) (heldAt s i)
-    pub ordered : (k : ℕ) → k < s .count → Freed (before (getD (s .order) k 0)) (heldAt s (getD (s .order) k 0))
-    pub once : (j k : ℕ) → j < k → k < s .count → getD (s .order) j 0 ≢ getD (s .order) k 0
-    pub counted : usedIn (s .after .places) + (s .count + s .thrown) ≡ usedIn (r .places)
+  before i = placeAt (r .places) i
 
   -- nothing is released yet
-  pub since-start : Since (record { after = r; order = 0 ∷ 0 ∷ 0 ∷ 0 ∷ []; count = 0; thrown = 0 })
+  pub since-start : Since r (record { after = r; order = 0 ∷ 0 ∷ 0 ∷ 0 ∷ []; count = 0; thrown = 0 })
   since-start =
       record {
         places = refl;
@@ -167,7 +132,7 @@ module _ (r : Record) where
       (s : Released)
       (i : ℕ)
       (e : nextHeld (s .after .reliable) 0 (s .after .places) ≡ At i)
-      (h : Since s)
+      (h : Since r s)
     where
       is-used : heldAt s i .used ≡ true
       is-used = next-used (s .after .reliable) (heldAt s i) (found-next s i e .1)
@@ -245,10 +210,10 @@ module _ (r : Record) where
       places-after : length (releaseAt s i .after .places) ≡ length (r .places)
       places-after = rw (release-places s i) (length-set (s .after .places) i (freePlace (heldAt s i)) ∙ h .places)
 
-      pub since-more : Since (releaseAt s i)
+      pub since-more : Since r (releaseAt s i)
       since-more = by (passing s i) (release-is s i)
         where
-          by : (b : Bool) → releaseAt s i ≡ releaseBy b s i (heldAt s i) → Since (releaseAt s i)
+          by : (b : Bool) → releaseAt s i ≡ releaseBy b s i (heldAt s i) → Since r (releaseAt s i)
           by true t =
               let order : releaseAt s i .order ≡ longer = ap (λ (u : Released). u .order) t in
               let count : releaseAt s i .count ≡ s .count + 1 = ap (λ (u : Released). u .count) t in
@@ -274,6 +239,6 @@ module _ (r : Record) where
                 counted = omega (arith, one-fewer s i e, h .counted);
               }
 
-  pub release-frees : length (r .places) ≡ 4 → Since (released r)
+  pub release-frees : length (r .places) ≡ 4 → Since r (released r)
   unfolding released
-  release-frees four = along Since (since-more four) 4 _ since-start
+  release-frees four = along (Since r) (since-more four) 4 _ since-start

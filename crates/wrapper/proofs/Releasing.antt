@@ -1,15 +1,13 @@
 -- The leaves of step 4: the next held place, one release, and the releases one after the other. Assumes nothing.
 use Prim.Native.Nat.{ℕ, zero, suc, _+_, _-_, _<_, _≤_}
 use mathlib.Core.Bool.{Bool, true, false, not}
-use mathlib.Core.List.{List, [], _∷_}
+use mathlib.Core.List.{[], _∷_}
 use mathlib.Core.Logic.{⊎-elim}
 use mathlib.Core.Path.{_≡_, refl, sym, _∙_}
-use native.Mathlib.Numerals.{add-one}
 use native.Mathlib.Omega.{arith}
 use lib.Dec.{eqb, lit<}
 use lib.IntN.{ℤ}
-use lib.ListN.{length, getD, set, drop, drop-of-length-le}
-use lib.Seq.{drop-cons}
+use lib.ListN.{set}
 use mir.Syntax.{w32}
 use mir.Val.{ofZ, SFits}
 use denote.Enum.Declared.{tagOf}
@@ -18,18 +16,19 @@ use borrow.Author.Needs.{sfits-of}
 use borrow.Author.Tests.{not-true, not-false}
 use Rattle.counter.specs.Distance.{distance}
 use Rattle.counter.specs.declared.Reliable.{Reliable}
+use Rattle.record.specs.Places.{placeAt}
 use Rattle.record.specs.With.{withNumbers, withPlaces, freePlace}
 use Rattle.record.specs.declared.Place.{Place}
 use Rattle.record.specs.declared.Record.{Record}
 use Rattle.wrapper.specs.Judge.{judged}
-use Rattle.wrapper.specs.Release.{isNext, nextHeld, noPlace, passes, releaseBy, releaseAt, orStay, releaseFrom, released}
+use Rattle.wrapper.specs.Release.{isNext, nextHeld, passes, releaseBy, releaseAt, orStay, releaseFrom, released}
 use Rattle.wrapper.specs.declared.Judged.{Judged}
 use Rattle.wrapper.specs.declared.Judged.the-variants.{Old, Inconsistent, Fresh}
 use Rattle.wrapper.specs.declared.Search.{Search}
 use Rattle.wrapper.specs.declared.Search.the-variants.{At, Nowhere}
 use Rattle.wrapper.specs.declared.Released.{Released}
 use Rattle.wrapper.proofs.Judged.{the-type}
-use Rattle.wrapper.proofs.Signed.{bits-are}
+use Rattle.wrapper.proofs.Holding.{bits-are}
 
 -- ---- a held one that is next
 
@@ -43,27 +42,11 @@ module _ (r : Reliable) (p : Place) where
 
 pub ruleset nexts = (next-free, next-by-distance, sfits-of)
 
-module _ (r : Reliable) (ps : List Place) (i : ℕ) (l : length ps ≡ 4) (so-far : nextHeld r 0 ps ≡ nextHeld r i (drop i ps)) where
-  module _ (d : Place) (h : i < 4) (b : Bool) (e : b ≡ isNext r (getD ps i d)) where
-    pub next-here : b ≡ true → At i ≡ nextHeld r 0 ps
-    unfolding nextHeld
-    next-here t = rw (so-far, drop-cons ps i d (omega arith), ← e, t)
-
-    pub next-on : b ≡ false → nextHeld r 0 ps ≡ nextHeld r (i + 1) (drop (i + 1) ps)
-    unfolding nextHeld
-    next-on t = rw (so-far, drop-cons ps i d (omega arith), ← e, t, add-one i)
-
-  pub next-nowhere : 4 ≤ i → Nowhere ≡ nextHeld r 0 ps
-  unfolding nextHeld
-  next-nowhere h =
-      let none : length ps ≤ i = omega arith in
-      rw (so-far, drop-of-length-le ps none)
-
 -- ---- one release
 
 -- what place i holds
 abbrev pub heldAt : Released → ℕ → Place
-heldAt s i = getD (s .after .places) i noPlace
+heldAt s i = placeAt (s .after .places) i
 
 -- whether it passes step 1 again
 abbrev pub passing : Released → ℕ → Bool

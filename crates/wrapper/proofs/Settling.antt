@@ -13,6 +13,7 @@ use borrow.Author.Tests.{not-true, not-false, lt-leb, le-leb, eq-eqb, ne-eqb}
 use Rattle.counter.specs.Distance.{distance}
 use Rattle.counter.specs.Steps.{before}
 use Rattle.counter.specs.declared.Reliable.{Reliable}
+use Rattle.counter.proofs.Signed.{read}
 use Rattle.record.specs.Reasons.{lostSequence}
 use Rattle.record.specs.WellFormed.{closed}
 use Rattle.record.specs.With.{freed, withGap, withAcked}
@@ -25,7 +26,6 @@ use Rattle.wrapper.specs.declared.Arrived.{Arrived}
 use Rattle.wrapper.specs.declared.Gapped.{Gapped}
 use Rattle.wrapper.specs.declared.Reply.the-variants as reply
 use Rattle.wrapper.specs.declared.Settled.{Settled}
-use Rattle.wrapper.proofs.Signed.{read}
 
 -- ---- step 5
 

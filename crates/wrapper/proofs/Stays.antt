@@ -3,19 +3,19 @@
 use Prim.Native.Nat.{ℕ, zero, suc, _+_, _*_, _<_, _≤_}
 use mathlib.Core.Bool.{Bool, true, false, cond, not, _&&_, _||_, and-eq-true-iff, false≢true}
 use mathlib.Core.List.{List, [], _∷_}
-use mathlib.Core.Logic.{_≢_, _⊎_, inl, inr}
-use mathlib.Core.Path.{_≡_, refl, sym, ap, _∙_}
+use mathlib.Core.Logic.{_≢_, inl, inr}
+use mathlib.Core.Path.{_≡_, refl, sym, _∙_}
 use native.Mathlib.Omega.{arith}
-use lib.Dec.{eqb}
+use lib.Dec.{ltb, eqb}
 use lib.IntN.{ℤ, pos}
-use lib.ListN.{length, set, length-set}
+use lib.ListN.{length, set, length-set, List·getD-eq-default}
 use lib.Signed.{ltZ, leZ}
 use borrow.Author.Tests.{ltb-true, ltb-false, eqb-true, eqb-false, eq-eqb}
 use Rattle.counter.specs.Distance.{turn, ahead, distance}
 use Rattle.counter.specs.declared.Reliable.{Reliable}
 use Rattle.counter.proofs.Distances.{ahead-zero, ahead-between, ahead-is, distance-ahead, at-least, test-nearer}
 use Rattle.record.specs.Legal.{legalNames, legalParameters}
-use Rattle.record.specs.Profile.{maxRetries}
+use Rattle.record.specs.Places.{noPlace, placeAt}
 use Rattle.record.specs.Reasons.{lostSequence}
 use Rattle.record.specs.WellFormed.{mostContents, closed, wellFormed}
 use Rattle.record.specs.With.{freed, freePlace, withNumbers, withPlaces, withGap, withAcked}
@@ -24,9 +24,12 @@ use Rattle.record.specs.declared.Gap.the-variants.{Quiet, Standoff, Waiting}
 use Rattle.record.specs.declared.Place.{Place}
 use Rattle.record.specs.declared.Terms.{Terms}
 use Rattle.record.specs.declared.Record.{Record}
-use Rattle.record.proofs.Formed.{placeAt, Apart, Phase, Formed, formed, well-formed, free-formed}
+use Rattle.record.proofs.Choices.{each-case, never}
+use Rattle.record.proofs.Lowest.{lowest-nowhere}
+use Rattle.record.proofs.Profile.{some-retries}
+use Rattle.record.proofs.Stored.{Stored, used-stored}
+use Rattle.record.proofs.Formed.{Apart, Phase, Formed, formed, well-formed, free-formed}
 use Rattle.gap.specs.Standoff.{standoffOf}
-use Rattle.gap.proofs.Moves.{never}
 use Rattle.gap.proofs.Stays.{standoff-most}
 use Rattle.wrapper.specs.Judge.{consistent, judgedBy, judged, farther, heard}
 use Rattle.wrapper.specs.Hold.{is, nextOne, holds, lowestFree, placeFor, heldAs, putIn, placed}
@@ -44,6 +47,7 @@ use Rattle.wrapper.specs.declared.Reply.the-variants as reply
 use Rattle.wrapper.specs.declared.Search.{Search}
 use Rattle.wrapper.specs.declared.Search.the-variants.{At, Nowhere}
 use Rattle.wrapper.specs.declared.Settled.{Settled}
+use Rattle.wrapper.proofs.Holding.{tells}
 use Rattle.wrapper.proofs.InTurn.{is-number}
 use Rattle.wrapper.proofs.Releasing.{heldAt, passing, release-is, along}
 use Rattle.wrapper.proofs.ReleaseIsDone.{found-next, release-is-done}
@@ -77,11 +81,6 @@ pub record Going (least : ℕ) (r : Record) : Type 0 where
 -- the numbers that are held are numbers of the counter
 abbrev pub HeldBelow : List Place → Type 0
 HeldBelow ps = (i : ℕ) → placeAt ps i .used ≡ true → placeAt ps i .reliable .0 < turn
-
--- what holds of either side of a choice
-either : {A : Type 0} (P : A → Type 0) (b : Bool) (x y : A) → (b ≡ true → P x) → (b ≡ false → P y) → P (cond b x y)
-either P true x y p q = p refl
-either P false x y p q = q refl
 
 -- ---- numbers and tests
 
@@ -119,20 +118,6 @@ still-known : (reliable known n : ℕ) → reliable < turn → n < turn → ahea
     → ahead reliable known < 2147483648 → ahead n known < 2147483648
 still-known reliable known n hr hn hk h = omega (arith, ahead-between reliable n known hr hn hk)
 
--- a used place after one was set: that one, or another as it was
-set-at : (ps : List Place) (i : ℕ) (q : Place) (j : ℕ) → placeAt (set ps i q) j .used ≡ true
-    → ((j ≡ i) × (placeAt (set ps i q) j ≡ q)) ⊎ ((j ≢ i) × (placeAt (set ps i q) j ≡ placeAt ps j))
-set-at [] i q j u = absurd (false≢true u)
-set-at (p ∷ ps) zero q zero u = inl (refl, refl)
-set-at (p ∷ ps) zero q (suc j) u = inr (λ e. omega arith, refl)
-set-at (p ∷ ps) (suc i) q zero u = inr (λ e. omega arith, refl)
-set-at (p ∷ ps) (suc i) q (suc j) u = by (set-at ps i q j u)
-  where
-    by : ((j ≡ i) × (placeAt (set ps i q) j ≡ q)) ⊎ ((j ≢ i) × (placeAt (set ps i q) j ≡ placeAt ps j))
-        → ((suc j ≡ suc i) × (placeAt (set ps i q) j ≡ q)) ⊎ ((suc j ≢ suc i) × (placeAt (set ps i q) j ≡ placeAt ps j))
-    by (inl a) = inl (ap suc (a .0), a .1)
-    by (inr a) = inr (λ e. a .0 (omega arith), a .1)
-
 -- ---- step 1
 
 consistent-least : (s : Bool) (d e : ℤ) → consistent s d e ≡ true → leZ (pos (cond s 1 0)) e ≡ true
@@ -159,11 +144,6 @@ fresh-ahead r w j =
 
 -- ---- step 2
 
--- the one fact on the profile's number of retries
-some-retries : 0 < maxRetries
-unfolding maxRetries
-some-retries = omega arith
-
 -- a phase that runs keeps its bounds, and a new standoff has its own
 phase-begun : (reliable known : ℕ) (t : Terms) (g : Gap) → Phase reliable known t g → (m n time : ℕ) → n ≢ m → time ≤ t .maxwait
     → Phase m n t (begun g time)
@@ -179,7 +159,7 @@ Farther r k n x =
 farther-is : (r k n : Reliable) → ahead (r .0) (k .0) < 2147483648 → ahead (r .0) (n .0) < 2147483648 → Farther r k n (farther r k n)
 unfolding farther
 farther-is r k n hk hn =
-    either
+    each-case
     (Farther r k n)
     (ltZ (distance (r .0) (k .0)) (distance (r .0) (n .0)))
     n
@@ -274,7 +254,7 @@ module _
     unfolding nextOne
     next-going e =
         let n = is-ahead (cond (w .reliably) 1 0) (r .reliable .0) (w .reliable .0) e in
-        let most = either (λ (k : ℕ). k ≤ 1) (w .reliably) 1 0 (λ t. omega arith) (λ t. omega arith) in
+        let most = each-case (λ (k : ℕ). k ≤ 1) (w .reliably) 1 0 (λ t. omega arith) (λ t. omega arith) in
         record {
           stands = g .stands;
           four = g .four;
@@ -301,25 +281,25 @@ module _
           four = length-set (r .places) i (heldAs w) ∙ g .four;
           below = g .below;
           known = g .known;
-          held = λ j u. waits (f .0) j u (set-at (r .places) i (heldAs w) j u);
-          apart = λ j k u v n. differ other j k u v n (set-at (r .places) i (heldAs w) j u) (set-at (r .places) i (heldAs w) k v);
+          held = λ j u. waits (f .0) j u (used-stored (r .places) i (heldAs w) j u);
+          apart = λ j k u v n. differ other j k u v n (used-stored (r .places) i (heldAs w) j u) (used-stored (r .places) i (heldAs w) k v);
         }
       where
         after : ℕ → Place
         after j = placeAt (set (r .places) i (heldAs w)) j
 
         waits : w .reliably ≡ true → (j : ℕ) → after j .used ≡ true
-            → ((j ≡ i) × (after j ≡ heldAs w)) ⊎ ((j ≢ i) × (after j ≡ placeAt (r .places) j))
+            → Stored noPlace (r .places) i (heldAs w) j
             → Waits 1 (r .reliable .0) (r .known .0) (after j)
         waits t j u (inl a) = rw (a .1) (held-waits t)
         waits t j u (inr a) = rw (a .1) (sooner g .held j (rw (a .1) at u))
 
         differ : ((j : ℕ) → placeAt (r .places) j .used ≡ true → placeAt (r .places) j .reliable .0 ≢ w .reliable .0)
             → (j k : ℕ) → after j .used ≡ true → after k .used ≡ true → after j .reliable .0 ≡ after k .reliable .0
-            → ((j ≡ i) × (after j ≡ heldAs w)) ⊎ ((j ≢ i) × (after j ≡ placeAt (r .places) j))
-            → ((k ≡ i) × (after k ≡ heldAs w)) ⊎ ((k ≢ i) × (after k ≡ placeAt (r .places) k))
+            → Stored noPlace (r .places) i (heldAs w) j
+            → Stored noPlace (r .places) i (heldAs w) k
             → j ≡ k
-        differ other j k u v n (inl a) (inl b) = a .0 ∙ sym (b .0)
+        differ other j k u v n (inl a) (inl b) = sym (a .0) ∙ b .0
         differ other j k u v n (inl a) (inr b) =
             absurd (other k (rw (b .1) at v) (sym (rw (a .1, b .1) at n)))
         differ other j k u v n (inr a) (inl b) = absurd (other j (rw (a .1) at u) (rw (a .1, b .1) at n))
@@ -329,7 +309,7 @@ module _
     pub placed-going : Going 1 (placed r w .after)
     unfolding placed
     placed-going =
-        either (λ (p : Placed). Going 1 (p .after))
+        each-case (λ (p : Placed). Going 1 (p .after))
         (nextOne r w)
         (record { after = withNumbers r (w .total) (w .reliable); fate = fate.Delivered })
         (putIn r w (placeFor w (r .places)))
@@ -355,11 +335,10 @@ module _ (s : Released) (i : ℕ) (e : nextHeld (s .after .reliable) 0 (s .after
   after j = placeAt (set (s .after .places) i (freePlace p)) j
 
   -- what is held still is another, as it was
-  other-held : (j : ℕ) → after j .used ≡ true → (j ≢ i) × (after j ≡ placeAt (s .after .places) j)
-  other-held j u = by (set-at (s .after .places) i (freePlace p) j u)
+  other-held : (j : ℕ) → after j .used ≡ true → (i ≢ j) × (after j ≡ placeAt (s .after .places) j)
+  other-held j u = by (used-stored (s .after .places) i (freePlace p) j u)
     where
-      by : ((j ≡ i) × (after j ≡ freePlace p)) ⊎ ((j ≢ i) × (after j ≡ placeAt (s .after .places) j))
-          → (j ≢ i) × (after j ≡ placeAt (s .after .places) j)
+      by : Stored noPlace (s .after .places) i (freePlace p) j → (i ≢ j) × (after j ≡ placeAt (s .after .places) j)
       by (inl a) = absurd (false≢true (rw (a .1) at u))
       by (inr a) = a
 
@@ -386,15 +365,15 @@ module _ (s : Released) (i : ℕ) (e : nextHeld (s .after .reliable) 0 (s .after
       }
 
   -- another held one is two or more ahead, since its number is another
-  farther-held : (j : ℕ) → j ≢ i → placeAt (s .after .places) j .used ≡ true
+  farther-held : (j : ℕ) → i ≢ j → placeAt (s .after .places) j .used ≡ true
       → 2 ≤ ahead (s .after .reliable .0) (placeAt (s .after .places) j .reliable .0)
   farther-held j z u =
       let h = g .held j u in
       let two : ahead (s .after .reliable .0) (placeAt (s .after .places) j .reliable .0) ≢ 1 =
       λ o.
       z
-      (g .apart j i u (next-is .0)
-      (ahead-same (s .after .reliable .0) _ (p .reliable .0) (g .below) (h .below) (g .held i (next-is .0) .below) (o ∙ sym (next-is .1))))
+      (sym (g .apart j i u (next-is .0)
+      (ahead-same (s .after .reliable .0) _ (p .reliable .0) (g .below) (h .below) (g .held i (next-is .0) .below) (o ∙ sym (next-is .1)))))
       in
       omega (arith, h .beyond)
 
@@ -425,18 +404,14 @@ module _ (s : Released) (i : ℕ) (e : nextHeld (s .after .reliable) 0 (s .after
       by true = delivered-going
       by false = thrown-going
 
--- where none is found, none is next
-none-next : (r : Reliable) (k : ℕ) (ps : List Place) → nextHeld r k ps ≡ Nowhere → (i : ℕ) → isNext r (placeAt ps i) ≡ false
+-- where none is found, none is next: past the places stands a free one
+none-next : (r : Reliable) (ps : List Place) → nextHeld r 0 ps ≡ Nowhere → (i : ℕ) → isNext r (placeAt ps i) ≡ false
 unfolding nextHeld
-none-next r k [] e i = refl
-none-next r k (p ∷ ps) e i = by (isNext r p) refl e (none-next r (k + 1) ps) i
+none-next r ps e i = by (ltb i (length ps)) refl
   where
-    by : (b : Bool) → isNext r p ≡ b → cond b (At k) (nextHeld r (k + 1) ps) ≡ Nowhere
-        → (nextHeld r (k + 1) ps ≡ Nowhere → (i : ℕ) → isNext r (placeAt ps i) ≡ false)
-        → (i : ℕ) → isNext r (placeAt (p ∷ ps) i) ≡ false
-    by true n q later i = never (cc)
-    by false n q later zero = n
-    by false n q later (suc i) = later q i
+    by : (b : Bool) → ltb i (length ps) ≡ b → isNext r (placeAt ps i) ≡ false
+    by true l = lowest-nowhere (isNext r) At Nowhere tells noPlace ps 0 e i (ltb-true i (length ps) l)
+    by false l = rw (List·getD-eq-default ps noPlace (ltb-false i (length ps) l))
 
 -- all releases together keep them so
 all-going : (r : Record) → Going 1 r → Going 1 (released r .after)
@@ -447,7 +422,7 @@ all-going r g = along (λ s. Going 1 (s .after)) release-going 4 _ g
 pub released-going : (r : Record) → Going 1 r → Going 2 (released r .after)
 released-going r g =
     let after = all-going r g in
-    let none = none-next (released r .after .reliable) 0 (released r .after .places) (release-is-done r (g .four)) in
+    let none = none-next (released r .after .reliable) (released r .after .places) (release-is-done r (g .four)) in
     record {
       stands = after .stands;
       four = after .four;
@@ -486,10 +461,10 @@ going-formed r g h p =
 pub gapped-formed : (r : Record) (oldest : Reliable) → Going 2 r → wellFormed (gapped r oldest .after) ≡ true
 unfolding gapped closed
 gapped-formed r oldest h =
-    either (λ (g : Gapped). wellFormed (g .after) ≡ true) (closed r) (record { after = withGap r Quiet; lost = false }) _
+    each-case (λ (g : Gapped). wellFormed (g .after) ≡ true) (closed r) (record { after = withGap r Quiet; lost = false }) _
     (λ e. going-formed r Quiet h (eqb-true (r .known .0) (r .reliable .0) e))
     (λ e.
-    either (λ (g : Gapped). wellFormed (g .after) ≡ true)
+    each-case (λ (g : Gapped). wellFormed (g .after) ≡ true)
     (lost r oldest)
     (record { after = freed r; lost = true })
     (record { after = withGap r (begun (r .gap) (standoffOf r)); lost = false })
@@ -507,7 +482,7 @@ acked-formed r a = refl
 pub acknowledged-formed : (r : Record) (w : Arrived) → wellFormed r ≡ true → wellFormed (acknowledged r w .after) ≡ true
 unfolding acknowledged
 acknowledged-formed r w h =
-    either (λ (s : Settled). wellFormed (s .after) ≡ true)
+    each-case (λ (s : Settled). wellFormed (s .after) ≡ true)
     (asked r w && not (spared r w))
     (record { after = withAcked r (r .reliable); reply = reply.Ack (r .reliable) })
     (record { after = r; reply = reply.Nothing })
@@ -520,7 +495,7 @@ unfolding settled
 settled-formed r w h =
     let g = gapped r (w .oldest) in
     let stays = gapped-formed r (w .oldest) h in
-    either (λ (s : Settled). wellFormed (s .after) ≡ true)
+    each-case (λ (s : Settled). wellFormed (s .after) ≡ true)
     (g .lost)
     (record { after = g .after; reply = reply.Leaving lostSequence (r .reliable) })
     (acknowledged (g .after) w)

@@ -1,12 +1,13 @@
 -- Step 3 of a wrapper (01, "One channel"): delivered, held in a place, or dropped.
-use Prim.Native.Nat.{ℕ, _+_}
-use mathlib.Core.Bool.{Bool, true, false, cond, _&&_, _||_}
+use Prim.Native.Nat.{ℕ}
+use mathlib.Core.Bool.{Bool, true, false, cond, not, _&&_, _||_}
 use mathlib.Core.List.{List, [], _∷_}
 use lib.ListN.{set}
 use lib.Dec.{eqb}
 use lib.IntN.{ℤ, pos, negsuc}
 use Rattle.counter.specs.Distance.{distance}
 use Rattle.counter.specs.declared.Reliable.{Reliable}
+use Rattle.record.specs.Lowest.{lowest}
 use Rattle.record.specs.With.{withNumbers, withPlaces}
 use Rattle.record.specs.declared.Place.{Place}
 use Rattle.record.specs.declared.Record.{Record}
@@ -30,10 +31,12 @@ unfoldable pub holds : Reliable → List Place → Bool
 holds n [] = false
 holds n (p ∷ ps) = (p .used && eqb (p .reliable .0) (n .0)) || holds n ps
 
+abbrev pub isFree : Place → Bool
+isFree p = not (p .used)
+
 -- the lowest free one of places that are counted from i on
 unfoldable pub lowestFree : ℕ → List Place → Search
-lowestFree i [] = search.Nowhere
-lowestFree i (p ∷ ps) = cond (p .used) (lowestFree (i + 1) ps) (search.At i)
+lowestFree i ps = lowest isFree search.At search.Nowhere i ps
 
 -- where a wrapper is held: nowhere if it is unreliable, if a held one has its reliable number, or if no place is free
 unfoldable pub placeFor : Arrived → List Place → Search

@@ -3,3 +3,5 @@ pub mod Hold
 pub mod Release
 pub mod Settle
 pub mod Taken
+pub mod Since
+pub mod InTurn

@@ -1,10 +1,12 @@
 -- Step 4 of a wrapper (01, "One channel"): held ones that are next are released.
 use Prim.Native.Nat.{ℕ, zero, suc, _+_}
-use mathlib.Core.Bool.{Bool, true, false, cond, _&&_}
+use mathlib.Core.Bool.{Bool, true, false, _&&_}
 use mathlib.Core.List.{List, [], _∷_}
-use lib.ListN.{getD, set}
+use lib.ListN.{set}
 use Rattle.counter.specs.Distance.{distance}
 use Rattle.counter.specs.declared.Reliable.{Reliable}
+use Rattle.record.specs.Lowest.{lowest}
+use Rattle.record.specs.Places.{placeAt}
 use Rattle.record.specs.With.{withNumbers, withPlaces, freePlace}
 use Rattle.record.specs.declared.Place.{Place}
 use Rattle.record.specs.declared.Record.{Record}
@@ -22,12 +24,7 @@ isNext r p = p .used && is 1 (distance (r .0) (p .reliable .0))
 
 -- the lowest place of such a one, of places that are counted from i on
 unfoldable pub nextHeld : Reliable → ℕ → List Place → Search
-nextHeld r i [] = search.Nowhere
-nextHeld r i (p ∷ ps) = cond (isNext r p) (search.At i) (nextHeld r (i + 1) ps)
-
--- past the places stands a free one
-abbrev pub noPlace : Place
-noPlace = record { used = false; total = record { 0 = 0 }; reliable = record { 0 = 0 }; len = 0 }
+nextHeld r i ps = lowest (isNext r) search.At search.Nowhere i ps
 
 -- the record with place i free
 abbrev pub without : Record → ℕ → Place → Record
@@ -53,8 +50,8 @@ releaseBy false s i p =
 
 unfoldable pub releaseAt : Released → ℕ → Released
 releaseAt s i =
-    releaseBy (passes (judged (s .after) true (getD (s .after .places) i noPlace .total) (getD (s .after .places) i noPlace .reliable)))
-    s i (getD (s .after .places) i noPlace)
+    releaseBy (passes (judged (s .after) true (placeAt (s .after .places) i .total) (placeAt (s .after .places) i .reliable)))
+    s i (placeAt (s .after .places) i)
 
 -- go on with a place that was found, or stop
 abbrev pub orStay : Search → Released → (ℕ → Released) → Released

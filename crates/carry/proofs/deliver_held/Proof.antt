@@ -5,7 +5,7 @@ use mathlib.Core.Path.{_≡_, refl, ap, _∙_}
 use native.Mathlib.Omega.{arith}
 use mathlib.Core.List.{[], _∷_}
 use lib.ListN.{length, getD}
-use Rattle.wrapper.specs.Release.{noPlace}
+use Rattle.record.specs.Places.{placeAt}
 use Rattle.carry.specs.Carried.{fromPlace, deliverFrom, oneMore, listed}
 use Rattle.carry.specs.declared.Deliveries.{Deliveries}
 use Rattle.carry.proofs.Carrying.{left, left-none, listed-turn, written-turn}
@@ -64,7 +64,7 @@ loop-again c =
     let h : l .k < a .plan .count = omega arith in
     let four : length (a .plan .order) ≡ 4 = search (needs, s .good .1 .1 .1 .0 .1 .1 .1 .1 .0) in
     let room : a .plan .count ≤ length (a .plan .order) = omega (arith, s .pre .0 .1 .count) in
-    let this = fromPlace (a .held .now) (a .i) (getD (a .plan .order) (l .k) 0) (getD (a .plan .after .places) (getD (a .plan .order) (l .k) 0) noPlace) in
+    let this = fromPlace (a .held .now) (a .i) (getD (a .plan .order) (l .k) 0) (placeAt (a .plan .after .places) (getD (a .plan .order) (l .k) 0)) in
     let grown : d .result ≡ oneMore (l .d) this = search (d .ensures) in
     let more : d .result .count ≡ l .d .count + 1 = ap (λ (x : Deliveries). x .count) grown in
     let cell : d .last .0 ≡ deliverFrom (l .d .count) (this ∷ []) (l .deliver) = search (d .ensures) in

@@ -1,5 +1,5 @@
 -- `deliver_place` meets its contract. Assumes nothing.
-use Rattle.carry.specs.Carried.{placeAt}
+use Rattle.carry.specs.Carried.{placeBegins}
 use Rattle.carry.proofs.Carrying.{cell-written}
 use borrow.Author.Needs.{needs}
 use Rattle.carry.proofs.deliver_place.Statement.{statement}
@@ -8,14 +8,14 @@ use Rattle.carry.proofs.deliver_place.Tie as tie
 mul-copy-part : tie.Need-mul-copy-part
 mul-copy-part c = search needs
 
-place-at-requires : tie.Need-place-at-requires
-place-at-requires c κs = search needs
+place-begins-requires : tie.Need-place-begins-requires
+place-begins-requires c κs = search needs
 
 cast-copy-part : tie.Need-cast-copy-part
 cast-copy-part c = search needs
 
 copy-part-requires : tie.Need-copy-part-requires
-unfolding placeAt
+unfolding placeBegins
 copy-part-requires c κs = search needs
 
 mul-t14 : tie.Need-mul-t14
@@ -38,7 +38,7 @@ deliver-place-spec =
     tie.close
     (tie.spec
     mul-copy-part
-    place-at-requires
+    place-begins-requires
     cast-copy-part
     copy-part-requires
     mul-t14

@@ -11,7 +11,8 @@ use lib.Seq.{getD-drop, take-all, take-length}
 use lib.Dec.{lit<, eqb}
 use borrow.Author.Tests.{leb-true, eqb-true, ne-eqb}
 use Rattle.octets.specs.Octets.{octets, part, numberAt, joined}
-use Rattle.octets.proofs.Numbers.{Octets, octets-tail, octets-number, part-add, length-part, number-one}
+use Rattle.octets.specs.Octets.{Octets}
+use Rattle.octets.proofs.Numbers.{octets-tail, octets-number, part-add, length-part, number-one}
 use Rattle.message.specs.Lengths.{reliableWrapper, unreliableWrapper, join, joinRefuse, joinAccept, leaving, ack, nak, getSessions, null, ipv4, Row, rows, look, lengthOf}
 use Rattle.message.specs.Layouts.{cidAt, membershipOf, wrapperOf, parametersAt, endpointAt, addressOf, joinOf}
 use Rattle.message.specs.Reading.{readableJoin, readable, fixedOf, messageOf, readMessage}

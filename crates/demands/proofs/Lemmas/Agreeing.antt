@@ -25,14 +25,14 @@ use Rattle.gap.specs.declared.Elapsed.{Elapsed}
 use Rattle.gap.proofs.Moves.{Move, stands, expires, lost, goes-on, moves}
 use Rattle.wrapper.specs.Judge.{heard}
 use Rattle.wrapper.specs.Hold.{placed}
-use Rattle.wrapper.specs.Release.{noPlace}
+use Rattle.record.specs.Places.{noPlace}
 use Rattle.wrapper.specs.Taken.{taken, stepped}
 use Rattle.wrapper.specs.declared.Arrived.{Arrived}
 use Rattle.wrapper.specs.declared.Plan.{Plan}
-use Rattle.wrapper.proofs.ReleaseIsDone.{Freed}
+use Rattle.wrapper.specs.Since.{Freed}
 use Rattle.table.specs.Table.{same}
 use Rattle.sending.specs.Sent.{replyOf}
-use Rattle.carry.specs.Carried.{Delivered, placeAt, heldAfter}
+use Rattle.carry.specs.Carried.{Delivered, placeBegins, heldAfter}
 use Rattle.carry.specs.Fits.{Fits}
 use Rattle.carry.proofs.PlanFits.{Kept, Taking, taking, plan-fits, stepped-taken}
 use Rattle.carry.proofs.HeldAgree.{AgreeAt, Agree, held-agree, agree-after}
@@ -62,8 +62,8 @@ same-contents q x y agree = rw (at 0 (lit< tt), at 1 (lit< tt), at 2 (lit< tt), 
     at j l = by (getD (q .places) j noPlace .used) refl
       where
         by : (b : Bool) → getD (q .places) j noPlace .used ≡ b
-            → cond b (part x (placeAt 0 j) (getD (q .places) j noPlace .len)) []
-            ≡ cond b (part y (placeAt 0 j) (getD (q .places) j noPlace .len)) []
+            → cond b (part x (placeBegins 0 j) (getD (q .places) j noPlace .len)) []
+            ≡ cond b (part y (placeBegins 0 j) (getD (q .places) j noPlace .len)) []
         by true u = agree j l u
         by false u = refl
 
@@ -153,7 +153,7 @@ module _
       after-agree : (j : ℕ) → j < 4 → getD (taken r w .after .places) j noPlace .used ≡ true
           → AgreeAt 0 (taken r w .after .places) (heldAfter 0 (taken r w .fate) c (slab i h)) (heldAfter 0 (taken r w .fate) c (slab i g)) j
       after-agree j l u =
-          let octets : List ℕ → List ℕ = λ s. part s (placeAt 0 j) (getD (taken r w .after .places) j noPlace .len) in
+          let octets : List ℕ → List ℕ = λ s. part s (placeBegins 0 j) (getD (taken r w .after .places) j noPlace .len) in
           let n = after-small j u in
           ap octets (sym (slab-after i (taken r w .fate) c h hi (fits .place) most room-h))
           ∙ slab-place i j _ (heldAfter i (taken r w .fate) c h) l n

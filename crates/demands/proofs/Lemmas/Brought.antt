@@ -6,8 +6,8 @@ use mathlib.Core.Bool.{Bool, true, false, cond}
 use mathlib.Core.List.{List}
 use lib.Dec.{lit<, ltb, eqb}
 use lib.ListN.{length, drop, length-take}
-use Rattle.octets.specs.Octets.{part, numberAt}
-use Rattle.octets.proofs.Numbers.{Octets, number-below}
+use Rattle.octets.specs.Octets.{part, numberAt, Octets}
+use Rattle.octets.proofs.Numbers.{number-below}
 use Rattle.message.specs.Lengths.{reliableWrapper, unreliableWrapper, join, joinRefuse, joinAccept, leaving, ack, nak}
 use Rattle.message.specs.Layouts.{wrapperOf, joinOf}
 use Rattle.message.specs.Reading.{readable, fixedOf, messageOf, readMessage, contents}
@@ -26,7 +26,7 @@ use Rattle.asking.specs.declared.Asked.{Asked}
 use Rattle.asking.specs.declared.Asked.the-variants as asked
 use Rattle.demands.specs.Calls.{Both}
 use Rattle.demands.proofs.Lemmas.Again.{octets-take, octets-drop}
-use Rattle.demands.proofs.Lemmas.Sounds.{either}
+use Rattle.record.proofs.Choices.{either}
 
 -- a number in n octets is below 256^n, whether or not all of them are there
 pub number-short : (d : List ℕ) (at n : ℕ) → Octets d → numberAt d at n < 256 ^ n

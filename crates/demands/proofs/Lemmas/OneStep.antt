@@ -34,7 +34,7 @@ use Rattle.demands.specs.Refusals.{isWrapper}
 use Rattle.demands.specs.Channel.{Channel, Told, refused, joined, left, stays, planned, byStep, wrapperOn, joinOn, elapsedOn, leaveOn, one}
 use Rattle.demands.specs.Order.{timeOf}
 
--- a refusal, or the answer to a Join
+-- a joinRefuseOf, or the answer to a Join
 pub data Words : Told → Type 0 where
   refuses : (n : ℕ) → Words (refused n)
   joins : (d : Decision) (reply : List ℕ) → Words (joined d reply)

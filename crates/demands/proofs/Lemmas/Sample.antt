@@ -8,8 +8,7 @@ use mathlib.Core.Path.{_≡_, refl, _∙_}
 use native.Mathlib.Omega.{arith}
 use lib.Dec.{lit<, ltb}
 use lib.ListN.{length, getD, replicate, length-replicate}
-use Rattle.octets.specs.Octets.{splice}
-use Rattle.octets.proofs.Numbers.{Octets}
+use Rattle.octets.specs.Octets.{splice, Octets}
 use Rattle.octets.proofs.Writes.{length-splice}
 use Rattle.counter.specs.Distance.{distance}
 use Rattle.message.specs.Layouts.{total, reliable}
@@ -21,9 +20,9 @@ use Rattle.record.specs.WellFormed.{heldRight, apart, apartFrom, heldApart, hel
 use Rattle.record.specs.declared.Gap.the-variants as gap
 use Rattle.record.specs.declared.Record.{Record}
 use Rattle.record.proofs.Formed.{formed}
-use Rattle.wrapper.specs.Release.{noPlace}
-use Rattle.table.specs.Table.{same, named, differs, tableFormed, blank, freshPlace}
-use Rattle.carry.specs.Carried.{placeAt}
+use Rattle.record.specs.Places.{noPlace}
+use Rattle.table.specs.Table.{same, named, differs, tableFormed, blank}
+use Rattle.carry.specs.Carried.{placeBegins}
 use Rattle.carry.proofs.DeliveredLength.{each-at}
 use Rattle.member.specs.Sizes.{heldSize, deliverSize, replySize}
 use Rattle.demands.specs.Calls as calls
@@ -89,7 +88,7 @@ holding owner =
       acked = reliable 10;
       idle = 0;
       gap = gap.Standoff 50 0;
-      places = record { used = true; total = total 12; reliable = reliable 12; len = 3 } ∷ replicate 3 freshPlace;
+      places = record { used = true; total = total 12; reliable = reliable 12; len = 3 } ∷ replicate 3 noPlace;
     }
 
 abbrev pub first : Cid
@@ -99,7 +98,7 @@ abbrev pub second : Cid
 second = record { high = 3; low = 4 }
 
 abbrev pub free : Record
-free = blank (replicate 4 freshPlace)
+free = blank (replicate 4 noPlace)
 
 -- record 5 is r, and record 2 has channel 7 of the first owner
 abbrev pub tableOf : Record → List Record
@@ -107,17 +106,17 @@ tableOf r = free ∷ free ∷ holding first ∷ free ∷ free ∷ r ∷ free ∷
 
 -- the wrapper's octets, and the octet x all around
 unfoldable pub heldOf : ℕ → List ℕ
-heldOf x = splice (replicate heldSize x) (placeAt 2 0) (1 ∷ 2 ∷ 3 ∷ [])
+heldOf x = splice (replicate heldSize x) (placeBegins 2 0) (1 ∷ 2 ∷ 3 ∷ [])
 
 abbrev pub stateOf : Record → ℕ → State
 stateOf r x = record { table = tableOf r; held = heldOf x }
 
-fresh : (n j : ℕ) → getD (replicate n freshPlace) j noPlace ≡ freshPlace
+fresh : (n j : ℕ) → getD (replicate n noPlace) j noPlace ≡ noPlace
 fresh zero j = refl
 fresh (suc n) zero = refl
 fresh (suc n) (suc j) = fresh n j
 
-pub fresh-below : (n j : ℕ) → Both (getD (replicate n freshPlace) j noPlace .total) (getD (replicate n freshPlace) j noPlace .reliable)
+pub fresh-below : (n j : ℕ) → Both (getD (replicate n noPlace) j noPlace .total) (getD (replicate n noPlace) j noPlace .reliable)
 fresh-below n j = rw (fresh n j) (lit< tt, lit< tt)
 
 pub sound-free : Sound free
@@ -131,10 +130,10 @@ sound-holding owner = sound-by refl (lit< tt, lit< tt) (lit< tt) (lit< tt) held
     held (suc j) = fresh-below 3 j
 
 pub held-size : (x : ℕ) → length (heldOf x) ≡ heldSize
-unfolding heldOf placeAt
+unfolding heldOf placeBegins
 held-size x =
     let l : length (replicate heldSize x) ≡ heldSize = length-replicate heldSize x in
-    length-splice (replicate heldSize x) (placeAt 2 0) (1 ∷ 2 ∷ 3 ∷ []) (omega arith) ∙ l
+    length-splice (replicate heldSize x) (placeBegins 2 0) (1 ∷ 2 ∷ 3 ∷ []) (omega arith) ∙ l
 
 pub joined-in : (r : Record) (x : ℕ) → Sound r → tableFormed (tableOf r) ≡ true → Joined 2 first 7 (stateOf r x)
 unfolding named same

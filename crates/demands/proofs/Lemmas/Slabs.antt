@@ -14,12 +14,12 @@ use Rattle.octets.specs.Octets.{part, splice}
 use Rattle.octets.proofs.Numbers.{length-part}
 use Rattle.record.specs.WellFormed.{mostContents}
 use Rattle.record.specs.declared.Place.{Place}
-use Rattle.wrapper.specs.Release.{noPlace}
+use Rattle.record.specs.Places.{noPlace}
 use Rattle.wrapper.specs.declared.Arrived.{Arrived}
 use Rattle.wrapper.specs.declared.Fate.{Fate}
 use Rattle.wrapper.specs.declared.Fate.the-variants as fate
 use Rattle.wrapper.specs.declared.Plan.{Plan}
-use Rattle.carry.specs.Carried.{Delivered, placeAt, heldAfter, atOnce, fromPlaces, deliveredBy}
+use Rattle.carry.specs.Carried.{Delivered, placeBegins, heldAfter, atOnce, fromPlaces, deliveredBy}
 use Rattle.carry.specs.Fits.{Fits}
 use Rattle.carry.proofs.DeliveredLength.{of-first}
 use Rattle.carry.proofs.OwnPlaces.{held-beside}
@@ -63,18 +63,18 @@ part-written s at m from ys h l =
 -- ---- the places of one record
 
 -- a place in the slab is the place in the held octets
-pub slab-place : (i j n : ℕ) (held : List ℕ) → j < 4 → n ≤ mostContents → part (slab i held) (placeAt 0 j) n ≡ part held (placeAt i j) n
-unfolding placeAt
+pub slab-place : (i j n : ℕ) (held : List ℕ) → j < 4 → n ≤ mostContents → part (slab i held) (placeBegins 0 j) n ≡ part held (placeBegins i j) n
+unfolding placeBegins
 slab-place i j n held hj hn =
-    let at : placeAt i 0 + placeAt 0 j ≡ placeAt i j = omega arith in
-    part-part held (placeAt i 0) placesSize (placeAt 0 j) n (omega arith) ∙ ap (λ (k : ℕ). part held k n) at
+    let at : placeBegins i 0 + placeBegins 0 j ≡ placeBegins i j = omega arith in
+    part-part held (placeBegins i 0) placesSize (placeBegins 0 j) n (omega arith) ∙ ap (λ (k : ℕ). part held k n) at
 
-slab-ends : (i : ℕ) → i < 8 → placeAt i 0 + placesSize ≤ 46528
-unfolding placeAt
+slab-ends : (i : ℕ) → i < 8 → placeBegins i 0 + placesSize ≤ 46528
+unfolding placeBegins
 slab-ends i h = omega arith
 
-slab-starts : (i j n : ℕ) → j < 4 → n ≤ mostContents → (placeAt i 0 + placeAt 0 j ≡ placeAt i j) × (placeAt 0 j + n ≤ placesSize)
-unfolding placeAt
+slab-starts : (i j n : ℕ) → j < 4 → n ≤ mostContents → (placeBegins i 0 + placeBegins 0 j ≡ placeBegins i j) × (placeBegins 0 j + n ≤ placesSize)
+unfolding placeBegins
 slab-starts i j n hj hn = (omega arith, omega arith)
 
 module _ (i : ℕ) (f : Fate) (c held : List ℕ) (hi : i < 8) (place : (j : ℕ) → f ≡ fate.Held j → j < 4) (most : length c ≤ mostContents)
@@ -87,16 +87,16 @@ module _ (i : ℕ) (f : Fate) (c held : List ℕ) (hi : i < 8) (place : (j : ℕ
       by (fate.Held j) e =
           let at = slab-starts i j (length c) (place j e) most in
           ap (λ (k : ℕ). slab i (splice held k c)) (sym (at .0))
-          ∙ part-written held (placeAt i 0) placesSize (placeAt 0 j) c (at .1) (omega (arith, slab-ends i hi))
+          ∙ part-written held (placeBegins i 0) placesSize (placeBegins 0 j) c (at .1) (omega (arith, slab-ends i hi))
       by fate.Dropped e = refl
 
   -- a slab of another record
   pub slab-other : (k : ℕ) → k ≢ i → slab k (heldAfter i f c held) ≡ slab k held
-  unfolding placeAt
-  slab-other k z = held-beside i f c held hi place most room (placeAt k 0) placesSize (λ j e. by (ltb k i) refl j (place j e))
+  unfolding placeBegins
+  slab-other k z = held-beside i f c held hi place most room (placeBegins k 0) placesSize (λ j e. by (ltb k i) refl j (place j e))
     where
       by : (t : Bool) → ltb k i ≡ t → (j : ℕ) → j < 4
-          → (placeAt k 0 + placesSize ≤ placeAt i j) ⊎ (placeAt i j + length c ≤ placeAt k 0)
+          → (placeBegins k 0 + placesSize ≤ placeBegins i j) ⊎ (placeBegins i j + length c ≤ placeBegins k 0)
       by true e j h = let l : k < i = ltb-true k i e in inl (omega arith)
       by false e j h = let l : i ≤ k = ltb-false k i e in inr (omega arith)
 
@@ -104,8 +104,8 @@ module _ (i : ℕ) (f : Fate) (c held : List ℕ) (hi : i < 8) (place : (j : ℕ
 
 from-slab : (h g : List ℕ) (i k : ℕ) (ps : List Place) (order : List ℕ)
     → ((n : ℕ) → n < length order
-    → part h (placeAt i (getD order n 0)) (getD ps (getD order n 0) noPlace .len)
-    ≡ part g (placeAt k (getD order n 0)) (getD ps (getD order n 0) noPlace .len))
+    → part h (placeBegins i (getD order n 0)) (getD ps (getD order n 0) noPlace .len)
+    ≡ part g (placeBegins k (getD order n 0)) (getD ps (getD order n 0) noPlace .len))
     → fromPlaces h i ps order ≡ fromPlaces g k ps order
 from-slab h g i k ps [] same = refl
 from-slab h g i k ps (j ∷ order) same =
@@ -119,10 +119,10 @@ slab-delivered held i w c p fits hi most room =
     (from-slab (heldAfter i (p .fate) c held) (heldAfter 0 (p .fate) c (slab i held)) i 0 (p .after .places) (take (p .count) (p .order))
     (of-first
     (λ j.
-    part (heldAfter i (p .fate) c held) (placeAt i j) (getD (p .after .places) j noPlace .len)
-    ≡ part (heldAfter 0 (p .fate) c (slab i held)) (placeAt 0 j) (getD (p .after .places) j noPlace .len))
+    part (heldAfter i (p .fate) c held) (placeBegins i j) (getD (p .after .places) j noPlace .len)
+    ≡ part (heldAfter 0 (p .fate) c (slab i held)) (placeBegins 0 j) (getD (p .after .places) j noPlace .len))
     (p .count) (p .order)
     (λ k l.
     sym (slab-place i (getD (p .order) k 0) _ (heldAfter i (p .fate) c held) (fits .order k l) (fits .contents k l))
-    ∙ ap (λ (s : List ℕ). part s (placeAt 0 (getD (p .order) k 0)) (getD (p .after .places) (getD (p .order) k 0) noPlace .len))
+    ∙ ap (λ (s : List ℕ). part s (placeBegins 0 (getD (p .order) k 0)) (getD (p .after .places) (getD (p .order) k 0) noPlace .len))
     (slab-after i (p .fate) c held hi (fits .place) most room))))

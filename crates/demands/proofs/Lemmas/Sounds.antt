@@ -1,7 +1,7 @@
 -- The numbers of a record's counters keep to 32 bits (`Sound`) whatever happens to the record: a wrapper's step (`taken-sound`), time
 -- (`elapsed-sound`), its end (`aside`) and a Join (`made-sound`). Assumes that the numbers which a wrapper or a Join brings have 32 bits.
 use Prim.Native.Nat.{ℕ, zero, suc, _<_}
-use mathlib.Core.Bool.{Bool, true, false, cond, not, _&&_}
+use mathlib.Core.Bool.{Bool, true, false, not, _&&_}
 use mathlib.Core.List.{List, [], _∷_, map}
 use mathlib.Core.Path.{_≡_, _∙_}
 use lib.ListN.{length, set, length-set, length-map}
@@ -12,13 +12,14 @@ use Rattle.counter.specs.declared.Reliable.{Reliable}
 use Rattle.message.specs.declared.Cid.{Cid}
 use Rattle.message.specs.declared.Join.{Join}
 use Rattle.message.specs.declared.Parameters.{Parameters}
+use Rattle.record.proofs.Choices.{either}
 use Rattle.record.specs.WellFormed.{closed}
 use Rattle.record.specs.With.{freePlace, withNumbers, withKnown, withAcked, withPlaces}
 use Rattle.record.specs.declared.Gap.{Gap}
 use Rattle.record.specs.declared.Place.{Place}
 use Rattle.record.specs.declared.Terms.{Terms}
 use Rattle.record.specs.declared.Record.{Record}
-use Rattle.record.proofs.Formed.{placeAt}
+use Rattle.record.specs.Places.{placeAt}
 use Rattle.gap.specs.Elapsed.{elapsedOf}
 use Rattle.gap.specs.declared.Elapsed.{Elapsed}
 use Rattle.gap.proofs.Moves.{Move, stands, expires, lost, goes-on, moves}
@@ -37,11 +38,6 @@ use Rattle.wrapper.specs.declared.Search.the-variants as search
 use Rattle.wrapper.specs.declared.Settled.{Settled}
 use Rattle.wrapper.proofs.Releasing.{along, release-is, passing, heldAt}
 use Rattle.demands.specs.Calls.{Sound, Both}
-
--- what holds of either side of a choice
-pub either : {A : Type 0} (P : A → Type 0) (b : Bool) (x y : A) → P x → P y → P (cond b x y)
-either P true x y p q = p
-either P false x y p q = q
 
 -- ---- places
 

@@ -19,6 +19,9 @@ reliable-distance-requires-2 c κs = search needs
 returns-3 : tie.Need-returns-3
 returns-3 c = search held
 
+cast-result : tie.Need-cast-result
+cast-result c = search needs
+
 returns-4 : tie.Need-returns-4
 returns-4 c = search held
 
@@ -31,4 +34,5 @@ held-right-spec =
     returns-2
     reliable-distance-requires-2
     returns-3
+    cast-result
     returns-4)

@@ -7,8 +7,8 @@ use Rattle.sending.proofs.put_join_reply.Tie as tie
 enum-known-decision : tie.Need-enum-known-decision
 enum-known-decision c = search needs
 
-put-refusal-requires : tie.Need-put-refusal-requires
-put-refusal-requires c κs = search needs
+put-join-refuse-requires : tie.Need-put-join-refuse-requires
+put-join-refuse-requires c κs = search needs
 
 enum-known-decision-2 : tie.Need-enum-known-decision-2
 enum-known-decision-2 c = search needs
@@ -27,7 +27,7 @@ same-length c = search needs
 
 returns : tie.Need-returns
 unfolding joinReplyOf
-returns c = search (c .before .before .before .before .before .decision .given .1, c .before .before .put-refusal .ensures)
+returns c = search (c .before .before .before .before .before .decision .given .1, c .before .before .put-join-refuse .ensures)
 
 same-length-2 : tie.Need-same-length-2
 same-length-2 c = search needs
@@ -48,7 +48,7 @@ put-join-reply-spec =
     tie.close
     (tie.spec
     enum-known-decision
-    put-refusal-requires
+    put-join-refuse-requires
     enum-known-decision-2
     put-acceptance-requires
     enum-told

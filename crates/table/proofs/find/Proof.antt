@@ -1,16 +1,17 @@
 -- `find` meets its contract. The loop's invariant: the first record of the owner and channel is the first of those that are left. Assumes nothing.
 use borrow.Author.Needs.{needs}
-use Prim.Native.Nat.{_≤_, _-_}
-use mathlib.Core.Path.{_≡_, refl}
+use Prim.Native.Nat.{_-_}
+use mathlib.Core.Path.{refl}
 use native.Mathlib.Omega.{arith}
-use lib.ListN.{length, drop}
-use Rattle.table.specs.Table.{found}
-use Rattle.table.proofs.Searching.{found-here, found-on, found-none, one-of-eight, none-of-eight}
+use Rattle.record.proofs.Lowest.{Left, left-here, left-on, left-none}
+use Rattle.table.specs.Table.{named, found}
+use Rattle.table.specs.declared.Found.the-variants.{At, Nowhere}
+use Rattle.table.proofs.Finding.{tells}
 use Rattle.table.proofs.find.Statement.{statement}
 use Rattle.table.proofs.find.Tie as tie
 
 abbrev Inv-loop : tie.InvT-loop
-Inv-loop owner channel table i₀ i = (i ≤ 8) × (length table ≡ 8) × (found 0 owner channel table ≡ found i owner channel (drop i table))
+Inv-loop owner channel table i₀ i = Left (named owner channel) At Nowhere 8 table i
 
 abbrev μ-loop : tie.MeasureT-loop
 μ-loop owner channel table i₀ i = 8 - i
@@ -19,9 +20,10 @@ loop-holds : tie.Need-loop-holds Inv-loop μ-loop
 loop-holds c = (search needs, search needs, refl)
 
 returns : tie.Need-returns Inv-loop μ-loop
+unfolding found
 returns c =
     let l = c .before .loop in
-    (found-none _ _ _ (l .i) (l .inv .1) (l .inv .2) (omega arith), none-of-eight)
+    left-none _ At Nowhere tells 8 _ (l .i) (l .inv) (omega arith)
 
 mul-r : tie.Need-mul-r Inv-loop μ-loop
 mul-r c = search needs
@@ -41,12 +43,13 @@ loop-less c = search needs
 loop-again : tie.Need-loop-again Inv-loop μ-loop
 loop-again c =
     let l = c .before .before .before .before .loop in
-    (omega arith, l .inv .1, found-on _ _ _ (l .i) (l .inv .1) (l .inv .2) _ (omega arith) _ (c .before .is-named .ensures) (c .if2 .left))
+    left-on _ At Nowhere tells 8 _ (l .i) (l .inv) _ (omega arith) _ (c .before .is-named .ensures) (c .if2 .left)
 
 returns-2 : tie.Need-returns-2 Inv-loop μ-loop
+unfolding found
 returns-2 c =
     let l = c .before .before .before .before .loop in
-    (found-here _ _ _ (l .i) (l .inv .1) (l .inv .2) _ (omega arith) _ (c .before .is-named .ensures) (c .if2 .taken), one-of-eight (l .i) (omega arith))
+    left-here _ At Nowhere tells 8 _ (l .i) (l .inv) _ (omega arith) _ (c .before .is-named .ensures) (c .if2 .taken)
 
 pub find-spec : {M : Type 1} → statement M
 find-spec =

@@ -1,17 +1,18 @@
 -- `find_free` meets its contract. The loop's invariant: the lowest free record is the lowest of those that are left. Assumes nothing.
 use borrow.Author.Needs.{needs}
-use Prim.Native.Nat.{_≤_, _-_}
+use Prim.Native.Nat.{_-_}
 use mathlib.Core.List.{[]}
-use mathlib.Core.Path.{_≡_, refl}
+use mathlib.Core.Path.{refl}
 use native.Mathlib.Omega.{arith}
-use lib.ListN.{length, drop}
-use Rattle.table.specs.Table.{lowestFree, blank}
-use Rattle.table.proofs.Searching.{free-here, free-on, free-none, one-of-eight, none-of-eight}
+use Rattle.record.proofs.Lowest.{Left, left-here, left-on, left-none}
+use Rattle.table.specs.Table.{isFree, lowestFree, blank}
+use Rattle.table.specs.declared.Found.the-variants.{At, Nowhere}
+use Rattle.table.proofs.Finding.{tells}
 use Rattle.table.proofs.find_free.Statement.{statement}
 use Rattle.table.proofs.find_free.Tie as tie
 
 abbrev Inv-loop : tie.InvT-loop
-Inv-loop table i₀ i = (i ≤ 8) × (length table ≡ 8) × (lowestFree 0 table ≡ lowestFree i (drop i table))
+Inv-loop table i₀ i = Left isFree At Nowhere 8 table i
 
 abbrev μ-loop : tie.MeasureT-loop
 μ-loop table i₀ i = 8 - i
@@ -20,9 +21,10 @@ loop-holds : tie.Need-loop-holds Inv-loop μ-loop
 loop-holds c = (search needs, search needs, refl)
 
 returns : tie.Need-returns Inv-loop μ-loop
+unfolding lowestFree
 returns c =
     let l = c .before .loop in
-    (free-none _ (l .i) (l .inv .1) (l .inv .2) (omega arith), none-of-eight)
+    left-none _ At Nowhere tells 8 _ (l .i) (l .inv) (omega arith)
 
 mul-if2 : tie.Need-mul-if2 Inv-loop μ-loop
 mul-if2 c = search needs
@@ -39,12 +41,13 @@ loop-less c = search needs
 loop-again : tie.Need-loop-again Inv-loop μ-loop
 loop-again c =
     let l = c .before .before .loop in
-    (omega arith, l .inv .1, free-on _ (l .i) (l .inv .1) (l .inv .2) (blank []) (omega arith) (search needs))
+    left-on isFree At Nowhere tells 8 _ (l .i) (l .inv) (blank []) (omega arith) _ refl (search needs)
 
 returns-2 : tie.Need-returns-2 Inv-loop μ-loop
+unfolding lowestFree
 returns-2 c =
     let l = c .before .before .loop in
-    (free-here _ (l .i) (l .inv .1) (l .inv .2) (blank []) (omega arith) (search needs), one-of-eight (l .i) (omega arith))
+    left-here isFree At Nowhere tells 8 _ (l .i) (l .inv) (blank []) (omega arith) _ refl (search needs)
 
 pub find-free-spec : {M : Type 1} → statement M
 find-free-spec =
