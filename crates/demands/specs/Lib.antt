@@ -1,3 +1,4 @@
+pub mod Contracts
 pub mod Runs
 pub mod Calls
 pub mod Refusals
