@@ -1,5 +1,5 @@
 -- Demand 2 of the order, call by call: whatever a message call, an elapsed call or a leave call answers, the octets that it writes as its reply, or into a
--- record's cell, are read as exactly the messages that its answer says, and a joinRefuseOf writes none (`message-replies`, `elapsed-sends`, `leave-replies`).
+-- record's cell, are read as exactly the messages that its answer says, and a refused call writes none (`message-replies`, `elapsed-sends`, `leave-replies`).
 -- All sizes lent and all tables are meant, refused ones too. Assumes what the machine's types say: the counters and names of the table's records have the
 -- widths of their fields (`Wide`), a CID and data are octets, and a reciprocal channel number has two octets. The example at the end meets that.
 use Prim.Native.Nat.{ℕ, _<_}

@@ -51,7 +51,7 @@ use Rattle.demands.proofs.Lemmas.Running.{Own, along}
 use Rattle.demands.proofs.Lemmas.Kept.{kept-before, terms-kept, gap-kept}
 use Rattle.demands.proofs.Lemmas.OneStep.{brought, Does, answers, wraps, passes, leaves, does}
 use Rattle.demands.specs.TwoRuns.{Joined}
-use Rattle.demands.proofs.OwnStepsOnly.{own-law}
+use Rattle.demands.proofs.Lemmas.OwnLaw.{own-law}
 use Rattle.demands.proofs.Lemmas.Sounds.{sound-by}
 use Rattle.demands.proofs.Lemmas.Sample as sample
 

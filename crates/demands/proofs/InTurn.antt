@@ -76,7 +76,7 @@ use Rattle.demands.proofs.Lemmas.OneMessage.{lent-length}
 use Rattle.demands.proofs.Lemmas.Brought.{wrapper-says}
 use Rattle.demands.proofs.TableStays.{table-stays}
 use Rattle.demands.specs.TwoRuns.{Joined}
-use Rattle.demands.proofs.OwnStepsOnly.{own-law}
+use Rattle.demands.proofs.Lemmas.OwnLaw.{own-law}
 use Rattle.demands.proofs.Lemmas.Sample as sample
 use Rattle.demands.proofs.NothingInvented.{each-to, nothing-invented, comes, lawful-comes, delivers-both}
 

@@ -15,4 +15,5 @@ pub mod Owned
 pub mod OneMessage
 pub mod OneCall
 pub mod Agreeing
+pub mod OwnLaw
 pub mod Sample

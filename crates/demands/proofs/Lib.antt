@@ -5,6 +5,7 @@ pub mod Examples
 pub mod Refusals
 pub mod BlockRefusals
 pub mod OneOutcome
+pub mod RunsOfCalls
 pub mod TableStays
 pub mod Frame
 pub mod RoomsSay

@@ -1,7 +1,7 @@
 -- Nothing is invented: every wrapper that a run delivers for a channel has the contents and the numbers of a wrapper message that the channel's owner
 -- sent it in this run and that was not refused, or of one that it held at the start (`nothing-invented`). As that is so of every run, it is so of every beginning of one: nothing
--- is delivered before it came. And every NAK that a run sends for the channel carries R, the last number delivered, and asks for at least one number:
--- from R + 1 on, none past K, the highest that is known to have been sent, and none that is held (`only-missing`). Both assume that the channel is
+-- is delivered before it came. And every NAK that a run sends for the channel carries R and asks for the range that 01 gives:
+-- at least one number from R + 1 on, none past K, the highest that is known to have been sent, and none that is held (`only-missing`). Both assume that the channel is
 -- joined in a right table at the start and that the data of messages are octets (`Joined`, `Lawful`); the example at the end meets that, delivers two
 -- wrappers and sends a NAK.
 use Prim.Native.Nat.{ℕ, suc, _+_, _<_, _≤_}
@@ -26,7 +26,7 @@ use Rattle.record.specs.declared.Place.{Place}
 use Rattle.record.specs.declared.Record.{Record}
 use Rattle.record.proofs.Formed.{formed}
 use Rattle.record.proofs.Choices.{never}
-use Rattle.gap.proofs.Moves.{Move, stands, expires, lost, goes-on, moves}
+use Rattle.gap.proofs.Moves.{Move, stands, expires, lost, goes-on, moves, Next, quiet, stands-on, asks, waits-on, once-more}
 use Rattle.gap.specs.Range.{Asked}
 use Rattle.gap.proofs.Range.{nak-asks}
 use Rattle.gap.specs.Elapsed.{inStandoff, phased, elapsedOf}
@@ -52,6 +52,9 @@ use Rattle.carry.proofs.Carrying.{place-ends}
 use Rattle.carry.proofs.DeliveredLength.{of-first}
 use Rattle.carry.proofs.OwnPlaces.{other-place}
 use Rattle.record.proofs.Stored.{used-below}
+use Rattle.record.specs.declared.Gap.{Gap}
+use Rattle.record.specs.declared.Gap.the-variants as gap
+use Rattle.gap.specs.declared.Event.{Event}
 use Rattle.carry.proofs.PlanFits.{Kept, Taking, taking}
 use Rattle.member.specs.Sizes.{messageSizes, elapsedSizes}
 use Rattle.demands.specs.Runs.{Came, run, ownOf, alone, shown, Each, none, more}
@@ -65,7 +68,8 @@ use Rattle.demands.proofs.Lemmas.OneStep.{refuses, joins, brought, Does
 use Rattle.demands.proofs.Lemmas.Owned.{Has, it-has}
 use Rattle.demands.proofs.Lemmas.Agreeing.{elapsed-places}
 use Rattle.demands.specs.TwoRuns.{Joined}
-use Rattle.demands.proofs.OwnStepsOnly.{own-law, own-run}
+use Rattle.demands.proofs.Lemmas.OwnLaw.{own-law}
+use Rattle.demands.proofs.OwnStepsOnly.{own-run}
 use Rattle.demands.proofs.Lemmas.Sample as sample
 
 -- ---- lists
@@ -253,14 +257,40 @@ nothing-invented i owner channel s cs each joined =
 
 -- ---- NAKs
 
--- elapsed time lets R, K and the places stand
-move-right : (r : Record) (ms : ℕ) (n first last : Reliable) {o : Elapsed} → Move r ms o
+-- the NAK of a record, by the definition
+nak-is : (r : Record) (ms : ℕ) (n first last : Reliable) (outbound : Bool) {o : Elapsed} → Move r ms o → o .event ≡ event.Nak n first last outbound
+    → (first ≡ nakFirst r) × (last ≡ nakLast r) × (outbound ≡ r .terms .outbound)
+nak-is r ms n first last outbound (stands u) e = never (cc)
+nak-is r ms n first last outbound (expires u x) e = never (cc)
+nak-is r ms n first last outbound (lost u x g l c) e = never (cc)
+nak-is r ms n first last outbound (goes-on u x m) e = by (r .gap) m e
+  where
+    by : (g : Gap) {h : Gap} {o : Event} → Next r ms g h o → o ≡ event.Nak n first last outbound
+        → (first ≡ nakFirst r) × (last ≡ nakLast r) × (outbound ≡ r .terms .outbound)
+    by gap.Quiet quiet e = never (cc)
+    by (gap.Standoff left count) (stands-on l) e = never (cc)
+    by (gap.Waiting left count) (waits-on l) e = never (cc)
+    by (gap.Waiting left count) (once-more l c) e = never (cc)
+    by (gap.Standoff left count) (asks l) e =
+        let f : first ≡ nakFirst r = cc in
+        let t : last ≡ nakLast r = cc in
+        let b : outbound ≡ r .terms .outbound = cc in
+        (f, t, b)
+
+-- elapsed time lets R, K, the places and the terms stand
+move-right : (r : Record) (ms : ℕ) (n first last : Reliable) (outbound : Bool) {o : Elapsed} → Move r ms o
     → (n ≡ r .reliable) × Asked (r .reliable .0) (r .known .0) (r .places) (first .0) (last .0)
-    → (n ≡ o .after .reliable) × Asked (o .after .reliable .0) (o .after .known .0) (o .after .places) (first .0) (last .0)
-move-right r ms n first last (stands u) a = a
-move-right r ms n first last (expires u x) a = a
-move-right r ms n first last (lost u x g l c) a = a
-move-right r ms n first last (goes-on u x m) a = a
+    → (first ≡ nakFirst r) × (last ≡ nakLast r) × (outbound ≡ r .terms .outbound)
+    → (n ≡ o .after .reliable)
+    × (first ≡ nakFirst (o .after))
+    × (last ≡ nakLast (o .after))
+    × (outbound ≡ o .after .terms .outbound)
+    × Asked (o .after .reliable .0) (o .after .known .0) (o .after .places) (first .0) (last .0)
+unfolding nakFirst nakLast
+move-right r ms n first last outbound (stands u) a b = (a .0, b .0, b .1, b .2, a .1)
+move-right r ms n first last outbound (expires u x) a b = (a .0, b .0, b .1, b .2, a .1)
+move-right r ms n first last outbound (lost u x g l c) a b = (a .0, b .0, b .1, b .2, a .1)
+move-right r ms n first last outbound (goes-on u x m) a b = (a .0, b .0, b .1, b .2, a .1)
 
 step-right : (h : Channel) {c : Call} {m : Came Channel Told} → Does h c m → h .at .reliable .0 < turn → h .at .known .0 < turn → wellFormed (h .at) ≡ true
     → NakRight m
@@ -269,7 +299,9 @@ step-right h (answers t (refuses k) z) hr hk w n first last outbound octets e = 
 step-right h (answers t (joins d reply) z) hr hk w n first last outbound octets e = never (cc)
 step-right h (wraps v d u fits fresh) hr hk w n first last outbound octets e = never (cc)
 step-right h (passes ms) hr hk w n first last outbound octets e =
-    move-right (h .at) ms n first last (moves (h .at) ms) (nak-asks (h .at) ms hr hk w n first last outbound (cc))
+    let sent : elapsedOf (h .at) ms .event ≡ event.Nak n first last outbound = cc in
+    move-right (h .at) ms n first last outbound (moves (h .at) ms) (nak-asks (h .at) ms hr hk w n first last outbound sent)
+    (nak-is (h .at) ms n first last outbound (moves (h .at) ms) sent)
 step-right h (leaves reason) hr hk w n first last outbound octets e = never (cc)
 
 right-of : (i : ℕ) (owner : Cid) (channel : ℕ) (s : State) (c : Call) → Joined i owner channel s → NakRight (one owner (channelAt i s) c)

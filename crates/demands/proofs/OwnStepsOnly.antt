@@ -24,13 +24,11 @@ use Rattle.record.specs.WellFormed.{mostContents, heldRight, apart, apartFrom, 
 use Rattle.record.specs.declared.Gap.the-variants as gap
 use Rattle.record.specs.With.{withGap, withIdle}
 use Rattle.record.specs.declared.Record.{Record}
-use Rattle.record.specs.declared.Terms.{Terms}
 use Rattle.record.proofs.Formed.{formed}
 use Rattle.gap.specs.Elapsed.{inStandoff, phased, elapsedOf}
 use Rattle.gap.specs.declared.Event.the-variants as event
 use Rattle.record.specs.Places.{noPlace}
 use Rattle.table.specs.Table.{same, named, differs, tableFormed, recordAt}
-use Rattle.table.proofs.Tables.{named-is, is-named}
 use Rattle.carry.specs.Carried.{placeBegins}
 use Rattle.record.proofs.Stored.{used-below}
 use Rattle.carry.proofs.HeldAgree.{Agree}
@@ -41,56 +39,17 @@ use Rattle.demands.specs.Calls as calls
 use Rattle.demands.specs.Calls.{Call, State, tableStep, Lawful}
 use Rattle.demands.specs.Channel.{Channel, Told, passed, isCid, names, own, elapsedOn, one, live, channelAt, viewAt, slab}
 use Rattle.demands.specs.TwoRuns.{Joined, contentsAt, heldContents, SameChannel, counted, Seen, seenOf}
-use Rattle.demands.proofs.Lemmas.Running.{own-each, Own, shown-alone, Likeness, alike-alone}
-use Rattle.demands.proofs.TableStays.{table-stays}
+use Rattle.demands.proofs.Lemmas.Running.{own-each, shown-alone, Likeness, alike-alone}
 use Rattle.demands.proofs.Lemmas.Slabs.{slab-place}
-use Rattle.demands.proofs.Lemmas.TermsStay.{one-terms}
 use Rattle.demands.specs.Refusals.{isWrapper}
 use Rattle.demands.proofs.Lemmas.Owned.{names-is, it-has}
 use Rattle.demands.proofs.Lemmas.Sample as sample
 use Rattle.demands.proofs.Lemmas.Sample.{holding, first, second, free, stateOf, heldOf, sound-holding, joined-in, joined-one}
+use Rattle.demands.proofs.Lemmas.OwnLaw.{stays-joined, own-law}
 use Rattle.demands.proofs.Lemmas.OneCall.{call-own, call-other}
 use Rattle.demands.proofs.Lemmas.Agreeing.{Tells, one-tells}
 
 -- ---- one run
-
-module _ (i : ℕ) (owner : Cid) (channel : ℕ) where
-  -- the terms of the channel stay, whoever calls
-  terms-stay : (s : State) (c : Call) → Joined i owner channel s → recordAt (tableStep s c .state .table) i .terms ≡ recordAt (s .table) i .terms
-  unfolding viewAt channelAt
-  terms-stay s c joined = by (own owner channel c) refl
-    where
-      by : (b : Bool) → own owner channel c ≡ b → recordAt (tableStep s c .state .table) i .terms ≡ recordAt (s .table) i .terms
-      by true e =
-          ap (λ (m : Came Channel Told). m .state .at .terms) (call-own i owner channel s (joined .right) (joined .has) c e)
-          ∙ one-terms (channelAt i s) owner c
-      by false e = ap (λ (h : Channel). h .at .terms) (call-other i owner channel s (joined .right) (joined .has) c e)
-
-  -- so record i has the channel as long as it is used
-  stays-joined : (s : State) (c : Call) → Joined i owner channel s → Lawful c → live (channelAt i (tableStep s c .state)) ≡ true
-      → Joined i owner channel (tableStep s c .state)
-  unfolding channelAt
-  stays-joined s c joined lawful used =
-      let terms = terms-stay s c joined in
-      let had = named-is owner channel (recordAt (s .table) i) (joined .has) in
-      record {
-        right = table-stays s c (joined .right) lawful;
-        has =
-            is-named owner channel (recordAt (tableStep s c .state .table) i)
-            (used, ap (λ (t : Terms). t .owner) terms ∙ had .1, ap (λ (t : Terms). t .channel) terms ∙ had .2);
-      }
-
-  -- such a channel is moved by its own calls only
-  pub own-law : Own tableStep (one owner) (own owner channel) (channelAt i) (viewAt i) live (Joined i owner channel) Lawful
-  unfolding viewAt channelAt
-  own-law =
-      record {
-        views = λ m. refl;
-        mine = λ s c joined lawful e. call-own i owner channel s (joined .right) (joined .has) c e;
-        others = λ s c joined lawful e. call-other i owner channel s (joined .right) (joined .has) c e;
-        lives = λ s joined. named-is owner channel (recordAt (s .table) i) (joined .has) .0;
-        stays = stays-joined;
-      }
 
 -- any other call leaves the channel: its record, and every octet of its places
 pub others-leave : (i : ℕ) (owner : Cid) (channel : ℕ) (s : State) (c : Call) → Joined i owner channel s → own owner channel c ≡ false

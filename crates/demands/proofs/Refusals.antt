@@ -32,7 +32,7 @@ use Rattle.wrapper.specs.declared.Judged.the-variants as judging
 use Rattle.gap.specs.Elapsed.{gives}
 use Rattle.gap.specs.declared.Event.the-variants as event
 use Rattle.sending.specs.Sent.{eventOf}
-use Rattle.carry.specs.Carried.{deliverFrom}
+use Rattle.carry.specs.Carried.{deliverFrom, listed}
 use Rattle.table.specs.Table.{same, found, tableFormed, recordAt}
 use Rattle.table.specs.declared.Found.{Found}
 use Rattle.table.specs.declared.Found.the-variants as search
@@ -42,6 +42,7 @@ use Rattle.member.specs.Sizes.{cellSize, messageSizes, elapsedSizes, leaveSizes
 use Rattle.member.specs.Messages.{Outcome, isFound, refusedMessage, joinOutcome, planOutcome, steppedOutcome, wrapperOutcome, askedOutcome, messageOutcome, numberOf, messaged, messageEnd}
 use Rattle.member.specs.Elapsing.{longest, Passing, refusedElapsed, passing, elapsedOutcome, cellOf, cellsFrom, elapsedEnd}
 use Rattle.member.specs.Leaving.{Departing, refusedLeave, departing, leaveFor, leaveOutcome, left, leaveEnd}
+use Rattle.member.specs.declared.Given.the-variants as given
 use Rattle.demands.specs.Refusals.{firstOf, First, None, check, unreadable, isWrapper, tooLong, recordOf, isOld, isInconsistent, messageChecks, elapsedChecks, leaveChecks, messageStands, elapsedStands, leaveStands}
 use Rattle.demands.proofs.Lemmas.Checks.{Numbered, empty, numbered, first-is-given, given-is-first, none-is-given, given-is-none}
 
@@ -288,7 +289,7 @@ pub message-leaves : (ts : List Record) (held deliver reply sender ours : List �
     → (firstOf (messageChecks ts held (length deliver) (length reply) sender ours v d) ≡ 0 → ⊥)
     → messageEnd (messageOutcome ts held (length deliver) (length reply) sender ours v d n) deliver reply
     ≡ messageStands ts held deliver reply (firstOf (messageChecks ts held (length deliver) (length reply) sender ours v d))
-unfolding deliverFrom
+unfolding deliverFrom listed
 message-leaves ts held deliver reply sender ours v d n z = by (message-told ts held (length deliver) (length reply) sender ours v d n) z
   where
     by : {k : ℕ} {out : Outcome} → Told ts held k out → (k ≡ 0 → ⊥) → messageEnd out deliver reply ≡ messageStands ts held deliver reply k

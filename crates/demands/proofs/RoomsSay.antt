@@ -1,11 +1,12 @@
 -- What a caller reads after a call is what the call came to, whatever lay in the lent rooms before: delivery k stands in cell k with its length (`deliveries-stand`),
--- and the answer counts and lists it (`deliveries-counted`, `deliveries-listed`); a reply stands at the front of its room (`reply-stands`, `left-stands`), and what
--- record k sends as time passes in cell k (`cells-stand`). The laws on deliveries assume a well-formed table of the machine's numbers (`Right`), all that speak of a
+-- and the answer counts and lists it (`deliveries-counted`, `deliveries-listed`); only a wrapper's step delivers (`wrappers-deliver`); a reply stands at the front of its
+-- room (`reply-stands`, `left-stands`), and what record k sends as time passes in cell k, as the answer lists it (`cells-stand`, `cells-listed`). The laws on deliveries assume a well-formed table of the machine's numbers (`Right`), all that speak of a
 -- room its size.
 use Prim.Native.Nat.{ℕ, zero, suc, _+_, _*_, _<_, _≤_}
-use mathlib.Core.List.{List, [], _∷_}
+use mathlib.Core.List.{List, [], _∷_, map}
 use mathlib.Core.Logic.{inl}
 use mathlib.Core.Path.{_≡_, refl, sym, ap, subst, _∙_}
+use mathlib.Core.Bool.{false, false≢true}
 use native.Mathlib.Nat.{zero-add, add-zero}
 use native.Mathlib.Omega.{arith}
 use lib.ListN.{length, getD, length-set}
@@ -30,10 +31,12 @@ use Rattle.carry.proofs.DeliveredLength.{delivered-length, delivered-few}
 use Rattle.carry.proofs.DeliverPast.{deliver-cell}
 use Rattle.member.specs.Sizes.{tableSize, deliverSize, cellSize, cellsSize}
 use Rattle.member.specs.Messages.{Outcome, planOutcome, messageOutcome, messaged, deliverAfter, replyAfter}
-use Rattle.member.specs.Elapsing.{Passing, sentBy, cellsFrom, cellsAfter}
+use Rattle.member.specs.Elapsing.{Passing, sentBy, cellsFrom, cellsAfter, passed, cellOf}
 use Rattle.member.specs.Leaving.{Departing, leftReply}
+use Rattle.member.specs.declared.Cell.{Cell}
 use Rattle.demands.specs.Calls.{State, Right}
 use Rattle.demands.proofs.Lemmas.Outcomes.{Carries, message-cases}
+use Rattle.demands.specs.Frame.{isWrapped}
 
 -- deliveries that have cells: five at most, each as long as it says
 record Stand (ds : List Delivered) : Type 0 where
@@ -105,20 +108,34 @@ listed-at a (d ∷ ds) z none (suc k) five few l =
     ∙ listed-at (oneMore a d) ds z none k (length-set (a .each) (a .count) (d .delivery) ∙ five) (omega arith) (omega arith)
 
 module _ (s : State) (right : Right s) (deliver reply : ℕ) (sender ours : List ℕ) (v : ℕ) (d : List ℕ) (n : ℕ) where
-  abbrev out : Outcome
-  out = messageOutcome (s .table) (s .held) deliver reply sender ours v d n
-
   -- the answer counts the deliveries that the call made
-  pub deliveries-counted : messaged out .count ≡ length (out .delivered)
-  deliveries-counted = listed-count noDeliveries (out .delivered) ∙ zero-add (length (out .delivered))
+  pub deliveries-counted : messaged (messageOutcome (s .table) (s .held) deliver reply sender ours v d n) .count
+      ≡ length (messageOutcome (s .table) (s .held) deliver reply sender ours v d n .delivered)
+  deliveries-counted = listed-count noDeliveries _ ∙ zero-add _
 
   -- and lists each, with its kind, numbers and length, in its turn
-  pub deliveries-listed : (z : Delivery) (none : Delivered) (k : ℕ) → k < length (out .delivered)
-      → getD (messaged out .deliveries) k z ≡ getD (out .delivered) k none .delivery
+  pub deliveries-listed : (z : Delivery) (none : Delivered) (k : ℕ)
+      → k < length (messageOutcome (s .table) (s .held) deliver reply sender ours v d n .delivered)
+      → getD (messaged (messageOutcome (s .table) (s .held) deliver reply sender ours v d n) .deliveries) k z
+      ≡ getD (messageOutcome (s .table) (s .held) deliver reply sender ours v d n .delivered) k none .delivery
   deliveries-listed z none k l =
+      let out = messageOutcome (s .table) (s .held) deliver reply sender ours v d n in
       let stand = message-stands s right deliver reply sender ours v d n in
       ap (λ m. getD (messaged out .deliveries) m z) (sym (zero-add k))
       ∙ listed-at noDeliveries (out .delivered) z none k refl (omega (arith, stand .few)) l
+
+  -- only a wrapper's step delivers: a refusal and the answer to a Join deliver nothing
+  pub wrappers-deliver : isWrapped (messageOutcome (s .table) (s .held) deliver reply sender ours v d n .given) ≡ false
+      → messageOutcome (s .table) (s .held) deliver reply sender ours v d n .delivered ≡ []
+  unfolding planOutcome
+  wrappers-deliver =
+      message-cases s right (λ out. isWrapped (out .given) ≡ false → out .delivered ≡ []) (λ number e. refl) (λ owner j n known free d e. refl)
+      (λ i w c carries. step i w c) deliver reply sender ours v d n
+    where
+      step : (i : ℕ) (w : Arrived) (c : List ℕ)
+          → isWrapped (planOutcome (s .table) (s .held) i w c (taken (recordAt (s .table) i) w) .given) ≡ false
+          → planOutcome (s .table) (s .held) i w c (taken (recordAt (s .table) i) w) .delivered ≡ []
+      step i w c e = absurd (false≢true (sym e))
 
 -- ---- the cells of an elapsed call, and the room of a leave call
 
@@ -153,12 +170,23 @@ cells-at i (e ∷ es) room none (suc k) l h =
     ∙ cells-at (i + 1) es (splice room (i * cellSize) (sentBy e)) none k
     (omega (arith, length-splice room (i * cellSize) (sentBy e) inside, l)) (omega arith)
 
--- what record k sends is read in cell k, with the length that the answer says
+-- what record k sends is read in cell k
 pub cells-stand : (p : Passing) (room : List ℕ) (none : Elapsed) (k : ℕ) → length (p .each) ≡ tableSize → length room ≡ cellsSize → k < tableSize
     → part (cellsAfter p room) (k * cellSize) (length (sentBy (getD (p .each) k none))) ≡ sentBy (getD (p .each) k none)
 cells-stand p room none k eight size l =
     ap (λ m. part (cellsAfter p room) (m * cellSize) (length (sentBy (getD (p .each) k none)))) (sym (zero-add k))
     ∙ cells-at 0 (p .each) room none k (omega (arith, eight, size)) (omega (arith, eight))
+
+-- and the answer lists its event, with the number of octets that stand in its cell
+pub cells-listed : (p : Passing) (z : Cell) (none : Elapsed) (k : ℕ) → k < length (p .each)
+    → getD (passed p .cells) k z ≡ record { event = getD (p .each) k none .event; len = length (sentBy (getD (p .each) k none)) }
+cells-listed p z none k l = at (p .each) k l
+  where
+    at : (es : List Elapsed) (k : ℕ) → k < length es
+        → getD (map cellOf es) k z ≡ record { event = getD es k none .event; len = length (sentBy (getD es k none)) }
+    at [] k l = absurd (omega arith)
+    at (e ∷ es) zero l = refl
+    at (e ∷ es) (suc k) l = at es k (omega arith)
 
 -- a Leaving is read at the front of its room
 pub left-stands : (p : Departing) (room : List ℕ) → part (leftReply p room) 0 (length (p .reply)) ≡ p .reply

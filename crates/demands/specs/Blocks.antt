@@ -1,4 +1,4 @@
--- The first malformed PDU of a block (01, "Blocks and layouts"), told without the reader: for the theorems on refusals 1 and 11.
+-- The first malformed PDU of a block (01, "Blocks and layouts"), told without the loop that reads a block: for the theorems on refusals 1 and 11.
 use Prim.Native.Nat.{ℕ, _<_}
 use mathlib.Core.List.{List}
 use mathlib.Core.Path.{_≡_}

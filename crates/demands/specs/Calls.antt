@@ -1,5 +1,5 @@
--- Calls over the table as one kind of thing, so that runs can be made of them: any arguments, any sizes lent, refused ones too. (The table goes in by value, so it
--- always has its size.) Their meaning is that of `member`, and nothing is defined twice.
+-- Calls over the table as one kind of thing, so that runs can be made of them (demand 3 of the order: "nothing but our calls over the tables"): any arguments, any sizes
+-- lent, refused ones too. (The table goes in by value, so it always has its size.) Their meaning is that of `member`, and nothing is defined twice.
 use Prim.Native.Nat.{ℕ, _<_}
 use mathlib.Core.Bool.{true, cond}
 use mathlib.Core.List.{List}

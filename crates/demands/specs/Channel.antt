@@ -1,5 +1,6 @@
--- One channel by itself: the record of an owner and a channel with the octets of its four places, and what its own calls do to it, put
--- together from the steps of one channel (`stepped`, `elapsedOf`, `decided`, `freed`) and from nothing else.
+-- One channel by itself (demand 3 of the order: "what demand 2's definition gives for those steps alone"): the record of an owner and a channel with the octets of its four
+-- places, which calls are its own, and what they do to it. Every step is that of one channel (`stepped`, `elapsedOf`, `decided`, `freed`), with its octets held,
+-- delivered and sent as the calls over the table do it; no other record and no search plays a part.
 use Prim.Native.Nat.{ℕ, _*_}
 use mathlib.Core.Bool.{Bool, true, cond, not, _&&_, _||_}
 use mathlib.Core.List.{List, []}

@@ -1,5 +1,6 @@
 -- What a call over the table leaves alone (01, "One channel": a step is of one record; "Room": four places per record).
 use Prim.Native.Nat.{ℕ}
+use mathlib.Core.Bool.{Bool, true, false}
 use mathlib.Core.List.{List}
 use mathlib.Core.Path.{_≡_}
 use Rattle.record.specs.declared.Record.{Record}
@@ -19,6 +20,12 @@ moved (given.Joined at (decision.Refuse reason)) = search.Nowhere
 moved (given.Joined at (decision.Again r reciprocal)) = search.Nowhere
 moved (given.Joined at (decision.Make p)) = at
 moved (given.Wrapped at fate thrown reply) = search.At at
+
+-- the call was a wrapper that its record took
+abbrev pub isWrapped : Given → Bool
+isWrapped (given.Refused number) = false
+isWrapped (given.Joined at answer) = false
+isWrapped (given.Wrapped at fate thrown reply) = true
 
 -- record k and the octets of its places are as they were
 pub record Still (ts : List Record) (h : List ℕ) (k : ℕ) (out : Outcome) : Type 0 where

@@ -4,7 +4,7 @@ use Prim.Native.Nat.{ℕ}
 use mathlib.Core.Bool.{Bool, true, false, cond, not, _&&_, _||_}
 use mathlib.Core.List.{List, [], _∷_, map}
 use lib.Dec.{ltb, eqb}
-use lib.ListN.{length}
+use lib.ListN.{length, replicate}
 use Rattle.message.specs.Lengths.{reliableWrapper, unreliableWrapper, join, ack}
 use Rattle.message.specs.Layouts.{cidAt, wrapperOf, joinOf}
 use Rattle.message.specs.Reading.{readable, contents}
@@ -19,9 +19,10 @@ use Rattle.table.specs.Table.{same, found, tableFormed, recordAt, blank}
 use Rattle.table.specs.declared.Found.{Found}
 use Rattle.table.specs.declared.Found.the-variants as search
 use Rattle.member.specs.Sizes.{messageSizes, elapsedSizes, leaveSizes}
-use Rattle.member.specs.Messages.{isFound, refusedMessage, messaged, MessageEnds}
+use Rattle.member.specs.Messages.{isFound, MessageEnds}
+use Rattle.member.specs.declared.Given.the-variants as given
 use Rattle.member.specs.Elapsing.{longest, ElapsedEnds}
-use Rattle.member.specs.Leaving.{refusedLeave, left, LeaveEnds}
+use Rattle.member.specs.Leaving.{LeaveEnds}
 
 -- ---- checks in an order
 
@@ -126,7 +127,14 @@ leaveChecks ts reply owner channel reason =
 abbrev pub messageStands : List Record → List ℕ → List ℕ → List ℕ → ℕ → MessageEnds
 messageStands ts held deliver reply number =
     record {
-      answer = messaged (refusedMessage ts held number);
+      answer =
+          record {
+            table = ts;
+            given = given.Refused number;
+            deliveries = replicate 5 (record { reliably = false; total = record { 0 = 0 }; reliable = record { 0 = 0 }; len = 0 });
+            count = 0;
+            reply = 0;
+          };
       held = held;
       deliver = deliver;
       reply = reply;
@@ -140,4 +148,4 @@ elapsedStands ts cells number =
     }
 
 abbrev pub leaveStands : List Record → List ℕ → ℕ → LeaveEnds
-leaveStands ts reply number = record { answer = left (refusedLeave ts number); reply = reply }
+leaveStands ts reply number = record { answer = record { table = ts; number = number; at = 0; reply = 0 }; reply = reply }

@@ -1,5 +1,5 @@
--- Runs of a machine and what they show of one part of it. Nothing here knows of channels: S are states, C calls, A what a call answers, and
--- H and B the same for the part.
+-- Runs of a machine and what they show of one part of it. Nothing here knows of channels: S are states, C calls and A what a call
+-- answers; H are the states of the part, and B what it is answered.
 use mathlib.Core.Bool.{Bool, cond}
 use mathlib.Core.List.{List, [], _∷_}
 

@@ -29,7 +29,7 @@ pub record Joined (i : ℕ) (owner : Cid) (channel : ℕ) (s : State) : Type 0 w
 abbrev pub contentsAt : Channel → ℕ → List ℕ
 contentsAt h j = cond (getD (h .at .places) j noPlace .used) (part (h .held) (placeBegins 0 j) (getD (h .at .places) j noPlace .len)) []
 
--- of all four places
+-- the contents of all four places
 unfoldable pub heldContents : Channel → List (List ℕ)
 heldContents h = contentsAt h 0 ∷ contentsAt h 1 ∷ contentsAt h 2 ∷ contentsAt h 3 ∷ []
 
