@@ -1,7 +1,7 @@
 -- The numbers of a record's counters keep to 32 bits (`Sound`) whatever happens to the record: a wrapper's step (`taken-sound`), time
 -- (`elapsed-sound`), its end (`aside`) and a Join (`made-sound`). Assumes that the numbers which a wrapper or a Join brings have 32 bits.
 use Prim.Native.Nat.{ℕ, zero, suc, _<_}
-use mathlib.Core.Bool.{Bool, true, false, cond, not, _&&_}
+use mathlib.Core.Bool.{Bool, true, false, not, _&&_}
 use mathlib.Core.List.{List, [], _∷_, map}
 use mathlib.Core.Path.{_≡_, _∙_}
 use lib.ListN.{length, set, length-set, length-map}
