@@ -4,7 +4,7 @@
 //!     differential CASES [SEED]
 //!
 //! CASES is a file of recorded cases; without SEED the clock gives one. The seed is printed: the same seed gives the same inputs. The exit
-//! status is 1 if there is a difference.
+//! status is 1 if there is a difference. It is written for Rust 1.63, which Debian 12 has.
 
 mod compare;
 mod inputs;

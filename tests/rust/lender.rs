@@ -22,7 +22,7 @@ pub struct Lender {
 impl Lender {
     /// Lends up to `most` octets at a time.
     pub fn new(most: usize) -> Lender {
-        let most = most.next_multiple_of(PAGE);
+        let most = (most + PAGE - 1) / PAGE * PAGE;
         unsafe {
             let place = mmap(std::ptr::null_mut(), most + PAGE, READ_AND_WRITE, PRIVATE_AND_ANONYMOUS, -1, 0);
             assert!(place as isize != -1, "no memory to lend");

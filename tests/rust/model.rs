@@ -77,7 +77,7 @@ pub fn open_block(parsed: &Result<Vec<Cursor>, (u32, usize)>) -> OpenAnswer {
 /// is no message before. (The header promises less of the others; this is the rule by which they are told.)
 fn may_be_of(length: usize, cursor: Cursor) -> bool {
     let Found { vector, data, length: octets } = cursor.before;
-    let before = vector < cursor.next && data.checked_add(octets).is_some_and(|end| end <= cursor.next);
+    let before = vector < cursor.next && data.checked_add(octets).map_or(false, |end| end <= cursor.next);
     length <= MOST && cursor.next <= length && (cursor.next == 0 || before)
 }
 
@@ -90,8 +90,9 @@ pub fn next_message(block: &[u8], cursor: Cursor) -> NextAnswer {
     if at == block.len() {
         return without(FEWER);
     }
-    let Some(pdu) = pdu(&block[at..], at == 0) else {
-        return without(ASTRAY);
+    let pdu = match pdu(&block[at..], at == 0) {
+        Some(pdu) => pdu,
+        None => return without(ASTRAY),
     };
     let found = pdu.message(at, cursor.before);
     NextAnswer { outcome: OK, found, cursor: Cursor { next: at + pdu.size, before: found } }
@@ -222,8 +223,9 @@ fn number(octets: &[u8]) -> u128 {
 
 pub fn read_message(vector: u8, data: &[u8]) -> MessageAnswer {
     let address = data.get(30).copied().unwrap_or_default();
-    let Some(layout) = layout(vector, address).filter(|layout| layout.takes(data.len())) else {
-        return MessageAnswer { outcome: UNREADABLE, ..Default::default() };
+    let layout = match layout(vector, address).filter(|layout| layout.takes(data.len())) {
+        Some(layout) => layout,
+        None => return MessageAnswer { outcome: UNREADABLE, ..Default::default() },
     };
     let mut message = Message { vector, ..Default::default() };
     let mut rest = data;
@@ -237,8 +239,9 @@ pub fn read_message(vector: u8, data: &[u8]) -> MessageAnswer {
 
 pub fn write_message(message: &Message, contents: &[u8], room: &mut [u8]) -> WriteAnswer {
     let refused = |outcome| WriteAnswer { outcome, length: 0 };
-    let Some(layout) = layout(message.vector, message.destination.kind).filter(|layout| layout.has_written_form()) else {
-        return refused(UNREADABLE);
+    let layout = match layout(message.vector, message.destination.kind).filter(|layout| layout.has_written_form()) {
+        Some(layout) => layout,
+        None => return refused(UNREADABLE),
     };
     let carried = if layout.is_wrapper() { contents } else { &[] };
     let length = 3 + layout.size() + carried.len();

@@ -110,8 +110,9 @@ fn write_text(answer: WriteAnswer, room: &[u8]) -> String {
 // ---- a message as text
 
 fn message_text(message: &Message, data: &[u8]) -> String {
-    let Some(layout) = layout(message.vector, message.destination.kind) else {
-        return format!("a message of vector {}", message.vector);
+    let layout = match layout(message.vector, message.destination.kind) {
+        Some(layout) => layout,
+        None => return format!("a message of vector {}", message.vector),
     };
     let mut text = vec![layout.name.to_string()];
     text.extend(layout.fields.iter().map(|field| field_text(field, (field.get)(message))));
@@ -144,7 +145,7 @@ fn octets_of(text: &str) -> Option<Vec<u8>> {
 }
 
 fn message_of(text: &str) -> Option<(Message, Vec<u8>)> {
-    let named = LAYOUTS.iter().find(|layout| text.strip_prefix(layout.name).is_some_and(|rest| rest.starts_with(' ')))?;
+    let named = LAYOUTS.iter().find(|layout| text.strip_prefix(layout.name).map_or(false, |rest| rest.starts_with(' ')))?;
     let mut words = text[named.name.len()..].split_whitespace();
     let layout = layout(named.vector, address_of(words.clone())?)?;
     let mut message = Message { vector: layout.vector, ..Default::default() };

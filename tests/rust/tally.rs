@@ -22,6 +22,7 @@ struct Group {
     name: &'static str,
     kinds: BTreeMap<&'static str, u64>,
     inputs: u64,
+    comparisons: u64,
     differences: u64,
 }
 
@@ -56,10 +57,13 @@ impl Tally {
         Tally { seed, outcomes: BTreeMap::new(), passed: 0, failed: 0, inputs: 0, group: Group::default() }
     }
 
-    /// Runs a group of inputs; it has passed if it meets no difference.
+    /// Runs a group of inputs; it has passed if it meets no difference. A group that compares nothing shows nothing, and fails.
     pub fn group(&mut self, name: &'static str, run: impl FnOnce(&mut Tally)) {
         self.group = Group { name, ..Default::default() };
         run(self);
+        if self.group.comparisons == 0 {
+            self.difference(|| "the group compared nothing".into());
+        }
         let Group { kinds, inputs, differences, .. } = &self.group;
         let verdict = if *differences == 0 { "ok  " } else { "FAIL" };
         println!("{verdict} {name}: {inputs} inputs, {differences} differences");
@@ -79,6 +83,7 @@ impl Tally {
 
     /// Compares two answers; what the input was is only told of a difference.
     pub fn compare<T: PartialEq + Debug>(&mut self, expected: T, came: T, input: impl FnOnce() -> String) {
+        self.group.comparisons += 1;
         if expected != came {
             self.difference(|| format!("{}\n  expected {expected:?}\n  came     {came:?}", input()));
         }

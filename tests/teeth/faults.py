@@ -1,11 +1,13 @@
 """Makes faulty members of model.py. `systematic` changes one comparison, number, order, field or statement at a time, by the syntax of each
-function; `written` are mistakes of another kind, from written.txt. `run` holds the case files against all of them.
+function; `written` are mistakes of another kind, from written.txt. `run` holds the case files against all of them. A change that a compiler
+would refuse in a typed language, since a name has no value where it is used or a function ends without its answer, is no fault.
 
 A fault has a title that does not depend on line numbers. EQUIVALENT has the titles of those that no case can tell from the model, each
 with its reason, from equivalent.txt; a fault that is neither noticed nor listed there is a failure of the case files.
 """
 
 import ast
+import builtins
 import collections
 import copy
 import os
@@ -14,10 +16,15 @@ import types
 HERE = os.path.dirname(os.path.abspath(__file__))
 with open(os.path.join(HERE, "model.py"), encoding="utf-8") as opened:
     SOURCE = opened.read()
+TREE = ast.parse(SOURCE)
 BASE = compile(SOURCE, "model.py", "exec")
 
+# The names that every function of the model may use.
+GLOBAL = set(dir(builtins)) | {part.id for top in TREE.body for part in ast.walk(top) if isinstance(top, ast.Assign) and isinstance(part, ast.Name)} \
+    | {top.name for top in TREE.body if isinstance(top, (ast.FunctionDef, ast.ClassDef))}
+
 # What prints or keeps an answer, and the fresh records that a case begins with, are no rules of the paper.
-PASSED_OVER = ("Answer", "Record", "Place")
+PASSED_OVER = ("Answer", "Record", "Place", "Fields")
 
 # Which arguments a function of the model changes, by position; all others change nothing.
 CHANGES = {"write": (0,), "deliver_one": (0, 1, 2), "take": (1, 2, 3, 5), "release": (1, 2, 3, 4), "settle": (0,), "acknowledge": (0, 2, 3),
@@ -64,7 +71,7 @@ def systematic():
     """A fault for every small change of every function of model.py."""
     counts = collections.Counter()
     faults = []
-    for top in ast.parse(SOURCE).body:
+    for top in TREE.body:
         if not isinstance(top, (ast.FunctionDef, ast.ClassDef)) or top.name in PASSED_OVER:
             continue
         for name, change in changes_of(top):
@@ -84,7 +91,82 @@ def changes_of(top):
             changed = copy.deepcopy(top)
             twin = list(ast.walk(changed))[number]
             before = ast.unparse(twin)
-            yield (describe(before, edit(twin)), changed)
+            description = describe(before, edit(twin))
+            if all(is_program(*pair) for pair in zip(functions_of(changed), functions_of(top))):
+                yield (description, changed)
+
+
+def functions_of(top):
+    return [part for part in ast.walk(top) if isinstance(part, ast.FunctionDef)]
+
+
+def is_program(changed, function):
+    """Whether every name of a changed function has a value before it is used, and it gives an answer at its end if the function does."""
+    answers = any(isinstance(part, ast.Return) and part.value is not None for part in ast.walk(function))
+    if answers and not isinstance(changed.body[-1], ast.Return):
+        return False
+    names = Names(changed)
+    names.in_order(changed.body)
+    return not names.without_value
+
+
+class Names(ast.NodeVisitor):
+    """Goes over a function in the order in which it runs, and notes whether a name is used that has no value on some way there."""
+
+    def __init__(self, function):
+        self.given = {argument.arg for argument in function.args.args}
+        self.without_value = False
+
+    def in_order(self, *parts):
+        for part in parts:
+            for one in part if isinstance(part, list) else [part]:
+                self.visit(one)
+
+    def use(self, name):
+        self.without_value = self.without_value or (name not in self.given and name not in GLOBAL)
+
+    def visit_Name(self, node):
+        if isinstance(node.ctx, ast.Store):
+            self.given.add(node.id)
+        else:
+            self.use(node.id)
+
+    def visit_Assign(self, node):
+        self.in_order(node.value, node.targets)
+
+    def visit_AugAssign(self, node):
+        if isinstance(node.target, ast.Name):
+            self.use(node.target.id)
+        self.in_order(node.value, node.target)
+
+    def visit_If(self, node):
+        self.visit(node.test)
+        before = set(self.given)
+        ways = []
+        for block in (node.body, node.orelse):
+            self.given = set(before)
+            self.in_order(block)
+            if not block or not isinstance(block[-1], (ast.Return, ast.Continue)):
+                ways.append(self.given)
+        self.given = set.intersection(*ways) if ways else before
+
+    def visit_For(self, node):
+        self.visit(node.iter)
+        before = set(self.given)
+        self.in_order(node.target, node.body)
+        self.given = before
+
+    def visit_While(self, node):
+        self.visit(node.test)
+        before = set(self.given)
+        self.in_order(node.body)
+        self.given = before
+
+    def visit_comprehension(self, node):
+        self.in_order(node.iter, node.target, node.ifs)
+
+    def visit_GeneratorExp(self, node):
+        self.in_order(node.generators, node.elt)
 
 
 def describe(before, after):
@@ -118,7 +200,7 @@ def edits_of_operators(node):
     edits = []
     if isinstance(node, ast.Compare) and len(node.ops) == 1:
         edits += [put_operator(kind) for kind in COMPARISONS.get(type(node.ops[0]), ()) if can_differ(node, kind)]
-    if isinstance(node, ast.BinOp):
+    if isinstance(node, ast.BinOp) and not is_run(node):
         edits += [put_arithmetic(kind) for kind in ARITHMETIC.get(type(node.op), ())]
         if isinstance(node.op, (ast.Mod, ast.FloorDiv)):
             edits.append(keep_left)
@@ -130,12 +212,21 @@ def edits_of_operators(node):
     return edits
 
 
+def is_run(node):
+    """Whether a sum is of octets or words, one run behind the other, and not of numbers."""
+    if isinstance(node, ast.BinOp):
+        return isinstance(node.op, ast.Add) and (is_run(node.left) or is_run(node.right))
+    if isinstance(node, ast.Call):
+        return not isinstance(node.func, ast.Name) or node.func.id in ("big", "pdu", "standing", "ack", "accept")
+    return isinstance(node, ast.List) or (isinstance(node, ast.Name) and node.id in ("words", "owner"))
+
+
 def can_differ(node, kind):
-    """A text is only equal or not, and nothing that is compared with 0 for equality is below it."""
+    """A text and NONE are only equal or not, and nothing that is compared with 0 for equality is below it."""
     right = node.comparators[0]
     if not isinstance(node.ops[0], (ast.Eq, ast.NotEq)) or kind in (ast.Eq, ast.NotEq):
         return True
-    if isinstance(right, ast.Constant) and isinstance(right.value, str):
+    if ast.unparse(right) == "NONE" or (isinstance(right, ast.Constant) and isinstance(right.value, str)):
         return False
     return not (isinstance(right, ast.Constant) and right.value == 0 and kind in (ast.LtE, ast.Gt))
 
@@ -156,7 +247,7 @@ def is_number(node):
     if isinstance(node, ast.Constant):
         return type(node.value) is int
     if isinstance(node, ast.Name):
-        return node.id.isupper() and node.id != "LEAVING_REASONS" and isinstance(node.ctx, ast.Load)
+        return node.id.isupper() and node.id not in ("LEAVING_REASONS", "NONE") and isinstance(node.ctx, ast.Load)
     return isinstance(node, ast.BinOp) and isinstance(node.op, ast.Pow)
 
 

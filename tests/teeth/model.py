@@ -1,6 +1,8 @@
 """The scope paper's rules in Python: blocks, messages and the calls over a table, one function for each rule. It was written from the
 paper alone, so that case files can be recorded and judged without the library. Nothing here is fast or clever on purpose; faults.py makes
-hundreds of small changes to this file, and each has to be noticed by a case file.
+hundreds of small changes to this file, and each has to be noticed by a case file. So that a faulty member gives a wrong answer where Python
+would break down, a field that was never read is 0, a number too large for its octets is cut, a message of no known kind is taken for the last
+one, and a search that finds nothing gives a number.
 """
 
 # Sizes of what is lent, in records or octets.
@@ -13,6 +15,9 @@ REPLY = 64
 CELLS = 512
 CELL = 64
 CID = 16
+
+# What a search gives that finds nothing.
+NONE = -1
 
 LONGEST_BLOCK = 65535
 LONGEST_ELAPSED = 1000
@@ -95,14 +100,25 @@ class Answer:
         self.refusal = refusal
         self.deliveries = []  # (kind, total, reliable, length), each with its cell of the delivery room
         self.fate = None  # of the wrapper itself: delivered, held or dropped
-        self.record = None  # the record and the place that holds it, if it is held
-        self.place = None
+        self.record = 0  # the record and the place that holds it, if it is held
+        self.place = 0
         self.thrown = 0
         self.reply = 0  # octets written into the reply room
         self.cells = []  # (record, kind, length), each with its cell of the elapsed room
 
 
-class Join:
+class Fields:
+    """What the fields of a message are before they are read."""
+
+    cid = bytes(CID)
+    ipv4 = bytes(4)
+    contents = b""
+    reliably = False
+    mid = channel = reciprocal = total = reliable = address = port = expiry = flags = holdoff = modulus = maxwait = adhoc = 0
+    oldest = first = last = threshold = 0
+
+
+class Join(Fields):
     """The fields of a Join. With an address type other than null and IPv4 only those up to the type count."""
 
     def __init__(self, octets):
@@ -129,7 +145,7 @@ class Join:
         self.adhoc = octets[at + 8]
 
 
-class Wrapper:
+class Wrapper(Fields):
     """The fields of a wrapper, and its contents behind them."""
 
     def __init__(self, vector, octets):
@@ -166,7 +182,7 @@ def write(room, at, octets):
 
 
 def big(value, width):
-    return value.to_bytes(width, "big")
+    return (value & 256**width - 1).to_bytes(width, "big")
 
 
 def pdu(vector, fields):
@@ -255,7 +271,7 @@ def read_message(vector, octets):
         return wrapper_words(Wrapper(vector, octets))
     if vector == GET_SESSIONS:
         return [("get", "sessions"), ("cid", octets[0:16])]
-    name = {JOIN_REFUSE: "refuse", JOIN_ACCEPT: "accept", LEAVING: "leaving", NAK: "nak"}[vector]
+    name = {JOIN_REFUSE: "refuse", JOIN_ACCEPT: "accept", LEAVING: "leaving"}.get(vector, "nak")
     words = [(name, ""), ("cid", octets[0:16]), ("channel", number(octets, 16, 2)), ("mid", number(octets, 18, 2)),
              ("reliable", number(octets, 20, 4))]
     if vector == JOIN_ACCEPT:
@@ -290,7 +306,7 @@ def write_message(name, fields, contents, room):
         return ("refused", 4)
     octets = b"".join(value if isinstance(value, bytes) else big(value, width) for value, width in fields) + contents
     vector = {"reliable": RELIABLE, "unreliable": UNRELIABLE, "join": JOIN, "refuse": JOIN_REFUSE, "accept": JOIN_ACCEPT,
-              "leaving": LEAVING, "ack": ACK, "nak": NAK, "get": GET_SESSIONS}[name]
+              "leaving": LEAVING, "ack": ACK, "nak": NAK}.get(name, GET_SESSIONS)
     if 3 + len(octets) > len(room):
         return ("refused", 1)
     if len(contents) > CONTENTS:
@@ -405,19 +421,19 @@ def is_gap_well_formed(record, known):
 
 
 def find(table, owner, channel):
-    """The record of this owner and channel, or None. A free record has neither."""
+    """The record of this owner and channel, or NONE. A free record has neither."""
     for index, record in enumerate(table):
         if record.used and record.owner == owner and record.channel == channel:
             return index
-    return None
+    return NONE
 
 
 def lowest_free(run):
-    """The lowest free record of a table, or the lowest free place of a record."""
+    """The lowest free record of a table, or the lowest free place of a record, or NONE."""
     for index, item in enumerate(run):
         if not item.used:
             return index
-    return None
+    return NONE
 
 
 def place_octets(index, place):
@@ -482,7 +498,7 @@ def join_step(table, reply, sender, reciprocal, join):
     if join.address != ADDRESS_NULL and join.address != ADDRESS_IPV4:
         return answer_with(reply, refuse(sender, join, BAD_ADDRESS))
     index = find(table, sender, join.channel)
-    if index is not None:
+    if index != NONE:
         record = table[index]
         if record.mid != join.mid:
             return answer_with(reply, refuse(sender, join, ALREADY_MEMBER))
@@ -490,7 +506,7 @@ def join_step(table, reply, sender, reciprocal, join):
     if reciprocal == 0:
         return answer_with(reply, refuse(sender, join, NO_RECIPROCAL))
     index = lowest_free(table)
-    if index is None:
+    if index == NONE:
         return answer_with(reply, refuse(sender, join, LOW_RESOURCES))
     begin(table[index], sender, reciprocal, join)
     return answer_with(reply, accept(sender, join.channel, join.mid, join.reliable, reciprocal) + ack(join.reliable))
@@ -529,7 +545,7 @@ def begin(record, sender, reciprocal, join):
 
 def wrapper_call(table, held, deliver, reply, sender, wrapper):
     index = find(table, sender, wrapper.channel)
-    if index is None:
+    if index == NONE:
         return Answer(6)
     if len(wrapper.contents) > CONTENTS:
         return Answer(7)
@@ -587,7 +603,7 @@ def take(index, record, held, deliver, wrapper, answer):
         if place.used and place.reliable == wrapper.reliable:
             return
     free = lowest_free(record.places)
-    if free is None:
+    if free == NONE:
         return
     place = record.places[free]
     place.used = True
@@ -608,18 +624,18 @@ def deliver_one(record, deliver, answer, reliably, total, reliable, contents):
 
 
 def next_held(record):
-    """The place of a held wrapper at distance 1 from R, or None."""
+    """The place of a held wrapper at distance 1 from R, or NONE."""
     for index, place in enumerate(record.places):
         if place.used and distance(record.reliable, place.reliable) == 1:
             return index
-    return None
+    return NONE
 
 
 def release(index, record, held, deliver, answer):
     """Step 4: held wrappers whose turn has come are delivered or, if they have grown old, thrown out."""
     while True:
         nearest = next_held(record)
-        if nearest is None:
+        if nearest == NONE:
             return
         place = record.places[nearest]
         place.used = False
@@ -720,14 +736,14 @@ def end_standoff(record):
 
 def last_missing(record):
     """One before the nearest held number, or K if none is held."""
-    nearest = None
+    nearest = NONE
     for place in record.places:
         if not place.used:
             continue
         ahead = distance(record.reliable, place.reliable)
-        if nearest is None or ahead < nearest:
+        if nearest == NONE or ahead < nearest:
             nearest = ahead
-    if nearest is None:
+    if nearest == NONE:
         return record.known
     return (record.reliable + nearest - 1) % 2**32
 
@@ -754,7 +770,7 @@ def leave_call(table, reply, owner, channel, reason):
     if not is_well_formed(table):
         return Answer(2)
     index = find(table, owner, channel)
-    if index is None:
+    if index == NONE:
         return Answer(6)
     if reason not in LEAVING_REASONS:
         return Answer(10)

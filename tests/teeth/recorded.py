@@ -46,8 +46,29 @@ def files_of(folder):
     return sorted(paths, key=lambda path: (os.path.getsize(path), path))
 
 
+class Octets(bytes):
+    """Lent octets to read. A member that reads past their end finds something there, as it might in another language."""
+
+    def __getitem__(self, place):
+        if isinstance(place, slice):
+            return Octets(super().__getitem__(place))
+        return super().__getitem__(place) if place < len(self) else UNTOUCHED
+
+
+class Room(bytearray):
+    """Lent octets to write. `overrun` says whether a member has written past their end."""
+
+    overrun = False
+
+    def __setitem__(self, place, octet):
+        if isinstance(place, int) and place >= len(self):
+            self.overrun = True
+        else:
+            super().__setitem__(place, octet)
+
+
 def octets_of(word):
-    return b"" if word == "-" else bytes.fromhex(word)
+    return Octets() if word == "-" else Octets.fromhex(word)
 
 
 def word_of(octets):
@@ -71,7 +92,7 @@ class Table:
         self.member = member
         self.table = [member.Record() for _ in range(8)]
         self.states = [record.state() for record in self.table]
-        self.held = bytearray(46528)
+        self.held = Room(46528)
         self.ours = bytes(16)
         self.lent = {}
         self.spoilt = False
@@ -86,14 +107,15 @@ class Table:
         return lines or []
 
     def room(self, piece, size):
-        return bytearray([UNTOUCHED]) * self.lent.get(piece, size)
+        return Room([UNTOUCHED] * self.lent.get(piece, size))
 
     def records(self):
         count = self.lent.get("table", 8)
         return self.table[:count] + [self.member.Record() for _ in range(count - 8)]
 
     def expect_untouched(self, room, written):
-        """Notes a failure if an octet outside the written runs, (begin, end) in order, is not as it was lent."""
+        """Notes a failure if an octet outside the written runs, (begin, end) in order, is not as it was lent, or one past the end was written."""
+        self.spoilt = self.spoilt or room.overrun
         at = 0
         for begin, end in written + [(len(room), len(room))]:
             if room[at:begin] != bytes([UNTOUCHED]) * (begin - at):
@@ -135,7 +157,7 @@ class Table:
 
     def do_message(self, sender, vector, reciprocal, octets):
         size = self.lent.get("held", 46528)
-        held = self.held if size == 46528 else bytearray(self.held[:size]) + bytearray(max(0, size - 46528))
+        held = self.held if size == 46528 else Room(self.held[:size] + bytes(max(0, size - 46528)))
         before = bytes(held)
         deliver = self.room("deliver", 7270)
         reply = self.room("reply", 64)
@@ -160,6 +182,7 @@ class Table:
         return lines + self.changes()
 
     def expect_held(self, before, held, answer):
+        self.spoilt = self.spoilt or held.overrun
         if held == before:
             return
         begin = end = 0
@@ -225,7 +248,7 @@ class Table:
         return [" ".join(line.split())]
 
     def do_write(self, size, name, *words):
-        room = bytearray([UNTOUCHED]) * int(size)
+        room = Room([UNTOUCHED] * int(size))
         kind, fields, contents = message_fields(name, words)
         outcome, number = self.member.write_message(kind, fields, contents, room)
         if outcome == "refused":

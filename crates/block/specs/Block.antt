@@ -62,6 +62,13 @@ asked position (messages ms) = messageAt ms position
 unfoldable pub readBlock : List ℕ → ℕ → BlockRead
 readBlock s position = cond (ltb most (length s)) TooLong (asked position (parse s))
 
+-- 01's number for what reading a block answers; 0 if it is no refusal
+abbrev pub numberOf : BlockRead → ℕ
+numberOf (Message m) = 0
+numberOf Fewer = 0
+numberOf TooLong = 1
+numberOf (Malformed p) = 11
+
 -- ---- for the code alone: one pass over a block, which reading and opening share. Nothing above leans on it
 
 -- of messages that are counted from `count` on, the one at the position; `found` if it is none of them

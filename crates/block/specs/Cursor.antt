@@ -29,6 +29,12 @@ openedOf (messages ms) = opened.Messages (length ms) start
 unfoldable pub openBlock : List ℕ → Opened
 openBlock s = cond (ltb most (length s)) opened.TooLong (openedOf (parse s))
 
+-- 01's number for what opening a block answers; 0 if it is opened
+abbrev pub numberOf : Opened → ℕ
+numberOf (opened.Messages count cursor) = 0
+numberOf opened.TooLong = 1
+numberOf (opened.Malformed p) = 11
+
 -- a cursor that cannot be one of this block's: it lies past the end, or the message before it does not lie before it. A block that is too
 -- long has no cursors
 unfoldable pub astray : ℕ → Cursor → Bool
@@ -42,6 +48,7 @@ abbrev pub passed : Pdu → Next
 passed (Whole m n) = next.Message m (record { next = n; before = m })
 passed Bad = next.Astray
 
+-- none of what reading on answers is one of 01's refusals: a block is judged when it is opened
 unfoldable pub nextMessage : List ℕ → Cursor → Next
 nextMessage s c =
     cond (astray (length s) c) next.Astray

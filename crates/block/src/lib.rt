@@ -4,8 +4,9 @@ ghost use mathlib.Core.Bool.{cond};
 ghost use Prim.Native.Nat.{_+_, _^_, _≤_, _<_};
 ghost use lib.ListN.{length, getD};
 ghost use Rattle.block.specs.Pdu.{hasV, hasD, headSize, fields, sizeAt, lacksFlag, leftOver, foundAt, pduAt, Within};
-ghost use Rattle.block.specs.Block.{scanOf, readBlock};
-ghost use Rattle.block.specs.Cursor.{openBlock, astray, nextMessage};
+ghost use Rattle.block.specs.Block.{scanOf};
+ghost use Rattle.block.specs.Cursor.{astray};
+ghost use Rattle.block.specs.Allowed.{ReadBlockAllows, OpenBlockAllows, NextMessageAllows};
 use octets::u8_at;
 
 // A message of a block: the place of its vector, and the place and length of its data.
@@ -206,7 +207,7 @@ fn scan(block: &[u8], position: usize) -> Scanned
 
 // The message of a block at `position`, counted from 0.
 pub fn read_block(block: &[u8], position: u32) -> BlockRead
-    ensures { λ r. ⌜ r ≡ readBlock (now (block .entry)) position ⌝ }
+    ensures { λ r. ⌜ ReadBlockAllows (now (block .entry)) position r ⌝ }
 {
     if MOST < block.len() {
         return BlockRead::TooLong;
@@ -226,7 +227,7 @@ pub fn read_block(block: &[u8], position: u32) -> BlockRead
 
 // How many messages a block has, and the cursor before the first.
 pub fn open_block(block: &[u8]) -> Opened
-    ensures { λ r. ⌜ r ≡ openBlock (now (block .entry)) ⌝ }
+    ensures { λ r. ⌜ OpenBlockAllows (now (block .entry)) r ⌝ }
 {
     if MOST < block.len() {
         return Opened::TooLong;
@@ -269,7 +270,7 @@ fn is_astray(size: usize, c: Cursor) -> bool
 
 // The message behind the cursor. Any cursor is taken; what it answers lies inside the block.
 pub fn next_message(block: &[u8], cursor: Cursor) -> Next
-    ensures { λ r. ⌜ r ≡ nextMessage (now (block .entry)) cursor ⌝ }
+    ensures { λ r. ⌜ NextMessageAllows (now (block .entry)) cursor r ⌝ }
 {
     if is_astray(block.len(), cursor) {
         return Next::Astray;

@@ -19,14 +19,9 @@ use Rattle.block.specs.declared.Pdu.the-variants.{Whole, Bad}
 use Rattle.block.specs.declared.BlockRead.the-variants.{TooLong, Malformed}
 use Rattle.block.specs.declared.Opened.{Opened}
 use Rattle.block.specs.declared.Opened.the-variants as opened
+use Rattle.demands.specs.Blocks.{FirstBad, here, later}
 use Rattle.block.proofs.Whole.{whole-within}
 use Rattle.block.proofs.InTurn.{long-agrees, malformed-agrees}
-
--- FirstBad s at before p: from `at` on, behind the message `before`, whole PDUs lead to p, and the PDU that begins at p is malformed
-pub data FirstBad (s : List ℕ) : ℕ → Found → ℕ → Type 0 where
-  here : (at : ℕ) (before : Found) → at < length s → pduAt s at before ≡ Bad → FirstBad s at before at
-  later : (at : ℕ) (before m : Found) (next p : ℕ) → at < length s → pduAt s at before ≡ Whole m next → FirstBad s next m p
-      → FirstBad s at before p
 
 -- what is said of the PDUs from a place on: if they are broken, the first malformed one of them begins there
 abbrev Stops : List ℕ → ℕ → Found → Parsed → Type 0

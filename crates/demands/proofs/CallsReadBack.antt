@@ -1,5 +1,5 @@
 -- Demand 2 of the order, call by call: whatever a message call, an elapsed call or a leave call answers, the octets that it writes as its reply, or into a
--- record's cell, are read as exactly the messages that its answer says, and a refusal writes none (`message-replies`, `elapsed-sends`, `leave-replies`).
+-- record's cell, are read as exactly the messages that its answer says, and a joinRefuseOf writes none (`message-replies`, `elapsed-sends`, `leave-replies`).
 -- All sizes lent and all tables are meant, refused ones too. Assumes what the machine's types say: the counters and names of the table's records have the
 -- widths of their fields (`Wide`), a CID and data are octets, and a reciprocal channel number has two octets. The example at the end meets that.
 use Prim.Native.Nat.{ℕ, _<_}
@@ -9,26 +9,26 @@ use mathlib.Core.Path.{_≡_, refl, sym, subst}
 use lib.Dec.{ltb, eqb, lit<}
 use lib.ListN.{length, replicate, List·getD-map}
 use borrow.Author.Tests.{eqb-true}
-use Rattle.octets.specs.Octets.{Octets as Bytes}
+use Rattle.octets.specs.Octets.{number, Octets as Bytes}
 use Rattle.message.specs.Lengths.{reliableWrapper}
-use Rattle.message.specs.Layouts.{cidAt, wrapperOf, joinOf}
+use Rattle.message.specs.Layouts.{cidAt, wrapperOf, joinOf, reliable}
 use Rattle.message.specs.Reading.{contents}
 use Rattle.message.specs.declared.Cid.{Cid}
 use Rattle.message.specs.declared.Join.{Join}
-use Rattle.message.specs.declared.Message.{Message}
 use Rattle.message.specs.declared.Wrapper.{Wrapper}
 use Rattle.record.specs.Reasons.{leavingReason}
 use Rattle.record.specs.WellFormed.{mostContents}
 use Rattle.record.specs.declared.Record.{Record}
-use Rattle.record.proofs.Choices.{either}
-use Rattle.gap.specs.Elapsed.{gives, elapsedOf}
+use Rattle.gap.specs.Elapsed.{gives, elapsedOf, phased, inStandoff}
 use Rattle.gap.specs.declared.Elapsed.{Elapsed}
 use Rattle.gap.specs.declared.Event.the-variants as event
+use Rattle.gap.specs.Range.{nearer, nearest, nakFirst, nakLast}
+use Rattle.gap.specs.declared.Event.{Event}
 use Rattle.wrapper.specs.Taken.{stepped}
 use Rattle.wrapper.specs.declared.Arrived.{Arrived}
 use Rattle.wrapper.specs.declared.Plan.{Plan}
-use Rattle.joining.specs.Replies.{departure}
-use Rattle.table.specs.Table.{same, found, lowestFree, tableFormed, blank, recordAt}
+use Rattle.joining.specs.Replies.{departure, missing}
+use Rattle.table.specs.Table.{same, found, lowestFree, tableFormed, blank, recordAt, named}
 use Rattle.table.specs.declared.Found.{Found}
 use Rattle.table.specs.declared.Found.the-variants as search
 use Rattle.table.proofs.Finding.{found-at}
@@ -38,33 +38,22 @@ use Rattle.carry.proofs.PlanFits.{stepped-taken}
 use Rattle.carry.proofs.DeliveredLength.{each-at}
 use Rattle.asking.specs.Asking.{arrivedOf, wrapperFor, wrapperAsks, joinAsks}
 use Rattle.asking.specs.declared.Asked.{Asked}
-use Rattle.member.specs.Sizes.{deliverSize, replySize, messageSizes, elapsedSizes, leaveSizes}
+use Rattle.member.specs.Sizes.{deliverSize, replySize, messageSizes, elapsedSizes, leaveSizes, cellsSize}
 use Rattle.member.specs.Messages.{Outcome, refusedMessage, existingAt, isFound, joinOutcome, planOutcome, wrapperOutcome, askedOutcome, messageOutcome}
 use Rattle.member.specs.Elapsing.{longest, Passing, refusedElapsed, passing, elapsedOutcome, sentBy}
 use Rattle.member.specs.Leaving.{Departing, refusedLeave, departing, leaveFor, leaveOutcome}
-use Rattle.member.specs.declared.Given.{Given}
 use Rattle.member.specs.declared.Given.the-variants as given
-use Rattle.demands.specs.Calls.{Sound}
+use Rattle.demands.specs.Calls.{Sound, Both}
 use Rattle.demands.specs.Channel.{entryAt}
-use Rattle.demands.proofs.Asks as asks
-use Rattle.demands.proofs.Asks.{Asks}
-use Rattle.demands.proofs.Sounds.{Both}
-use Rattle.demands.proofs.Brought.{wrapper-says}
-use Rattle.demands.proofs.OwnStepsOnly as example
-use Rattle.demands.proofs.Sample as sample
-use Rattle.demands.proofs.RepliesReadBack.{ReadFrom, none-read, replyMeans, eventMeans, joinMeans, FitTerms, FitAsked, FitExisting, step-reply-read, elapsed-read, leave-read, decided-read, join-fits, existing-fits, terms-fit}
-
--- the records of a table have numbers of the widths of their fields
-abbrev pub Wide : List Record → Type 0
-Wide ts = (k : ℕ) → k < length ts → Sound (recordAt ts k) × FitTerms (recordAt ts k .terms)
+use Rattle.demands.specs.ReadBack.{ReadFrom, replyMeans, eventMeans, givenMeans, leaveMeans, FitTerms, FitAsked, FitExisting, Wide}
+use Rattle.demands.proofs.Lemmas.Asks as asks
+use Rattle.demands.proofs.Lemmas.Asks.{Asks}
+use Rattle.record.proofs.Choices.{either}
+use Rattle.demands.proofs.Lemmas.Brought.{wrapper-says}
+use Rattle.demands.proofs.Lemmas.Sample as sample
+use Rattle.demands.proofs.RepliesReadBack.{none-read, step-reply-read, elapsed-read, leave-read, decided-read, join-fits, existing-fits, terms-fit}
 
 -- ---- message calls
-
--- what the answer to a message says is sent: o is the sender, j the Join that its data are if it is one, n the caller's reciprocal number
-abbrev pub givenMeans : List Record → Cid → Join → ℕ → Given → List Message
-givenMeans ts o j n (given.Refused number) = []
-givenMeans ts o j n (given.Joined at answer) = joinMeans o j n answer
-givenMeans ts o j n (given.Wrapped at fate thrown sent) = replyMeans (recordAt ts at .terms) sent
 
 abbrev Reads : List Record → Cid → Join → ℕ → Outcome → Type 0
 Reads ts o j n out = ReadFrom (out .reply) 0 (givenMeans ts o j n (out .given))
@@ -155,11 +144,6 @@ elapsed-sends ts cells ms i wide l =
 
 -- ---- leave calls
 
--- a Leaving of the record that was left, with its R and the caller's reason
-abbrev pub leaveMeans : List Record → ℕ → Departing → List Message
-leaveMeans ts reason p =
-    cond (eqb (p .number) 0) (departure (recordAt ts (p .at) .terms) (recordAt ts (p .at) .reliable) reason ∷ []) []
-
 pub leave-replies : (ts : List Record) (reply : ℕ) (owner : List ℕ) (channel reason : ℕ) → Wide ts
     → ReadFrom (leaveOutcome ts reply owner channel reason .reply) 0 (leaveMeans ts reason (leaveOutcome ts reply owner channel reason))
 unfolding leaveOutcome departing
@@ -178,26 +162,49 @@ leave-replies ts reply owner channel reason wide =
     by search.Nowhere e = none-read
     by (search.At i) e = on i (found-at (cidAt owner 0) channel ts i e .0) (leavingReason reason) refl
 
--- ---- an example: the table in which record 2 has channel 7 of the first owner, and the second owner's Join to channel 7
+-- ---- examples: the table in which record 2 has channel 7 of the first owner, and on it the second owner's Join to channel 7, elapsed time, and a leave call
 
-wide-table : Wide (example.tableOf example.free)
+wide-table : Wide (sample.tableOf sample.free)
 wide-table =
-    each-at (λ r. Sound r × FitTerms (r .terms)) (blank []) (example.tableOf example.free)
+    each-at (λ r. Sound r × FitTerms (r .terms)) (blank []) (sample.tableOf sample.free)
     (free, (free, (holding, (free, (free, (free, (free, (free, tt))))))))
   where
-    free : Sound example.free × FitTerms (example.free .terms)
+    free : Sound sample.free × FitTerms (sample.free .terms)
     free = (
-      example.sound-free,
+      sample.sound-free,
       record { owner = record { high = lit< tt; low = lit< tt }; channel = lit< tt; mid = lit< tt; reciprocal = lit< tt },
     )
 
-    holding : Sound (example.holding example.first) × FitTerms (example.holding example.first .terms)
-    holding = (example.sound-holding example.first, terms-fit)
+    holding : Sound (sample.holding sample.first) × FitTerms (sample.holding sample.first .terms)
+    holding = (sample.sound-holding sample.first, terms-fit)
 
 join-replies : (held : List ℕ)
-    → ReadFrom (messageOutcome (example.tableOf example.free) held deliverSize replySize (sample.cid 3 4) (replicate 16 0) 4 sample.joinData 9 .reply) 0
-    (givenMeans (example.tableOf example.free) (cidAt (sample.cid 3 4) 0) (joinOf sample.joinData) 9
-    (messageOutcome (example.tableOf example.free) held deliverSize replySize (sample.cid 3 4) (replicate 16 0) 4 sample.joinData 9 .given))
+    → ReadFrom (messageOutcome (sample.tableOf sample.free) held deliverSize replySize (sample.cid 3 4) (replicate 16 0) 4 sample.joinData 9 .reply) 0
+    (givenMeans (sample.tableOf sample.free) (cidAt (sample.cid 3 4) 0) (joinOf sample.joinData) 9
+    (messageOutcome (sample.tableOf sample.free) held deliverSize replySize (sample.cid 3 4) (replicate 16 0) 4 sample.joinData 9 .given))
 join-replies held =
-    message-replies (example.tableOf example.free) held deliverSize replySize (sample.cid 3 4) (replicate 16 0) 4 sample.joinData 9 wide-table
+    message-replies (sample.tableOf sample.free) held deliverSize replySize (sample.cid 3 4) (replicate 16 0) 4 sample.joinData 9 wide-table
     (sample.lawful (sample.cid 3 4) refl) (sample.lawful sample.joinData refl) (lit< tt)
+
+-- time passes, and record 2 asks for the number that it misses
+asks-for : entryAt (elapsedOutcome (sample.tableOf sample.free) cellsSize 50) 2 .event ≡ event.Nak (reliable 10) (reliable 11) (reliable 11) false
+unfolding elapsedOutcome elapsedSizes elapsedOf phased inStandoff nakFirst nakLast nearest nearer
+asks-for = rw (sample.joined-one .right .formed)
+
+nak-sent : ReadFrom (sentBy (entryAt (elapsedOutcome (sample.tableOf sample.free) cellsSize 50) 2)) 0
+    (missing (sample.holding sample.first .terms) (reliable 10) (reliable 11) (reliable 11) ∷ [])
+nak-sent =
+    subst
+    (λ (e : Event).
+    ReadFrom (sentBy (entryAt (elapsedOutcome (sample.tableOf sample.free) cellsSize 50) 2)) 0 (eventMeans (sample.holding sample.first .terms) e))
+    asks-for
+    (elapsed-sends (sample.tableOf sample.free) cellsSize 50 2 wide-table (lit< tt))
+
+-- the caller leaves channel 7 of the first owner
+leaves : leaveOutcome (sample.tableOf sample.free) replySize (sample.cid 1 2) 7 1 ≡ departing (sample.tableOf sample.free) 2 1
+unfolding leaveOutcome leaveSizes found named same cidAt number leavingReason
+leaves = rw (sample.joined-one .right .formed)
+
+leaving-sent : ReadFrom (departing (sample.tableOf sample.free) 2 1 .reply) 0 (departure (sample.holding sample.first .terms) (reliable 10) 1 ∷ [])
+unfolding departing
+leaving-sent = rw leaves at (leave-replies (sample.tableOf sample.free) replySize (sample.cid 1 2) 7 1 wide-table)

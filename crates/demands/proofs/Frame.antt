@@ -25,26 +25,14 @@ use Rattle.member.specs.Sizes.{leaveSizes}
 use Rattle.member.specs.Elapsing.{passing, passed}
 use Rattle.member.specs.Leaving.{refusedLeave, departing, leaveFor, leaveOutcome}
 use Rattle.member.specs.Messages.{Outcome, refusedMessage, joinDone, planOutcome, messageOutcome}
-use Rattle.member.specs.declared.Given.{Given}
 use Rattle.member.specs.declared.Given.the-variants as given
 use Rattle.demands.specs.Calls.{State, Right}
-use Rattle.demands.proofs.Slabs.{slab, slab-other}
-use Rattle.demands.proofs.Outcomes.{Carries, message-cases}
-
--- the record that a message call moves, if it moves one: the new one of a Join, or that of a wrapper
-abbrev pub moved : Given → Found
-moved (given.Refused number) = search.Nowhere
-moved (given.Joined at (decision.Refuse reason)) = search.Nowhere
-moved (given.Joined at (decision.Again r reciprocal)) = search.Nowhere
-moved (given.Joined at (decision.Make p)) = at
-moved (given.Wrapped at fate thrown reply) = search.At at
-
--- record k and the octets of its places are as they were
-pub record Still (ts : List Record) (h : List ℕ) (k : ℕ) (out : Outcome) : Type 0 where
-  pub at : recordAt (out .table) k ≡ recordAt ts k
-  pub places : slab k (out .held) ≡ slab k h
+use Rattle.demands.specs.Frame.{moved, Still}
+use Rattle.demands.proofs.Lemmas.Slabs.{slab-other}
+use Rattle.demands.proofs.Lemmas.Outcomes.{Carries, message-cases}
 
 module _ (s : State) (right : Right s) (k : ℕ) where
+  -- record k stands, if it is not the one that moves
   abbrev Frame : Outcome → Type 0
   Frame out = moved (out .given) ≢ search.At k → Still (s .table) (s .held) k out
 
@@ -70,7 +58,8 @@ module _ (s : State) (right : Right s) (k : ℕ) where
 
   -- every other record and its held octets stand
   pub message-frame : (deliver reply : ℕ) (sender ours : List ℕ) (v : ℕ) (d : List ℕ) (n : ℕ)
-      → Frame (messageOutcome (s .table) (s .held) deliver reply sender ours v d n)
+      → moved (messageOutcome (s .table) (s .held) deliver reply sender ours v d n .given) ≢ search.At k
+      → Still (s .table) (s .held) k (messageOutcome (s .table) (s .held) deliver reply sender ours v d n)
   message-frame = message-cases s right Frame refused-still join-still plan-still
 
 -- ---- leave and elapsed calls

@@ -1,4 +1,4 @@
--- A gap ends (01, "One channel"): add up the accepted elapsed times from the call on in which a channel's gap begins. Before they exceed NAK_MAX_RETRIES rounds of a
+-- A gap ends (01, "One channel"): add up the accepted elapsed times from the call on in which a channel's gap begins. By the time they exceed NAK_MAX_RETRIES rounds of a
 -- whole standoff, a whole wait and two seconds for the calls that pass their ends, the gap has closed or the channel is left, whatever other calls lie between (`gap-ends`).
 -- Assumes that the channel is joined in a right table and that the data of messages are octets; the example at the end meets all that is assumed.
 use Prim.Native.Nat.{ℕ, zero, suc, _+_, _-_, _*_, _<_, _≤_}
@@ -42,19 +42,18 @@ use Rattle.table.specs.Table.{same, named, differs, tableFormed}
 use Rattle.table.proofs.Tables as tables
 use Rattle.member.specs.Sizes.{tableSize, messageSizes, elapsedSizes}
 use Rattle.member.specs.Elapsing.{longest}
-use Rattle.demands.specs.Runs.{Came, run, ownOf, shown}
+use Rattle.demands.specs.Runs.{Came, run, ownOf, shown, Each, none, more}
 use Rattle.demands.specs.Calls as calls
 use Rattle.demands.specs.Calls.{Call, State, tableStep, Sound, Lawful}
-use Rattle.demands.specs.Channel.{Channel, Told, names, isCid, own, wrapperOn, one, live, channelAt, viewAt, planned, elapsedOn}
+use Rattle.demands.specs.Channel.{Channel, Told, names, isCid, own, wrapperOn, one, live, channelAt, viewAt, planned, elapsedOn, slab}
 use Rattle.demands.specs.Order.{over, everOver, timeOf, timeIn, bound}
-use Rattle.demands.proofs.Running.{Each, none, more, Own, along}
-use Rattle.demands.proofs.Kept.{kept-before, terms-kept, gap-kept}
-use Rattle.demands.proofs.OneStep.{brought, Does, answers, wraps, passes, leaves, does}
-use Rattle.demands.proofs.OwnStepsOnly.{Joined, own-law}
-use Rattle.demands.proofs.OwnStepsOnly as example
-use Rattle.demands.proofs.Slabs.{slab}
-use Rattle.demands.proofs.Sounds.{sound-by}
-use Rattle.demands.proofs.Sample as sample
+use Rattle.demands.proofs.Lemmas.Running.{Own, along}
+use Rattle.demands.proofs.Lemmas.Kept.{kept-before, terms-kept, gap-kept}
+use Rattle.demands.proofs.Lemmas.OneStep.{brought, Does, answers, wraps, passes, leaves, does}
+use Rattle.demands.specs.TwoRuns.{Joined}
+use Rattle.demands.proofs.OwnStepsOnly.{own-law}
+use Rattle.demands.proofs.Lemmas.Sounds.{sound-by}
+use Rattle.demands.proofs.Lemmas.Sample as sample
 
 -- ---- how much time a gap has left
 
@@ -241,7 +240,7 @@ abbrev quietly : Record
 quietly =
     record {
       used = true;
-      terms = example.holding example.second .terms;
+      terms = sample.holding sample.second .terms;
       total = total 10;
       reliable = reliable 10;
       known = reliable 10;
@@ -252,15 +251,15 @@ quietly =
     }
 
 abbrev before : State
-before = example.stateOf quietly 0
+before = sample.stateOf quietly 0
 
 sound-quietly : Sound quietly
-sound-quietly = sound-by refl (lit< tt, lit< tt) (lit< tt) (lit< tt) (example.fresh-below 4)
+sound-quietly = sound-by refl (lit< tt, lit< tt) (lit< tt) (lit< tt) (sample.fresh-below 4)
 
-joined-quietly : Joined 5 example.second 7 before
+joined-quietly : Joined 5 sample.second 7 before
 unfolding tableFormed
     differs named same wellFormed termsRight legalNames legalParameters minExpiry distance heldAllRight heldRight heldApart apartFrom apart gapRight closed maxRetries
-joined-quietly = record { right = example.joined-in quietly 0 sound-quietly refl .right; has = refl }
+joined-quietly = record { right = sample.joined-in quietly 0 sound-quietly refl .right; has = refl }
 
 abbrev comes : Call
 comes = sample.wrapperCall (sample.cid 3 4) 12 (4 ∷ 5 ∷ 6 ∷ [])
@@ -268,12 +267,12 @@ comes = sample.wrapperCall (sample.cid 3 4) 12 (4 ∷ 5 ∷ 6 ∷ [])
 lawful-comes : Lawful comes
 lawful-comes = sample.lawful (sample.wrapperData 12 (4 ∷ 5 ∷ 6 ∷ [])) refl
 
-own-comes : own example.second 7 comes ≡ true
+own-comes : own sample.second 7 comes ≡ true
 unfolding own isCid cidAt number same names readable lengthOf look wrapperOf
 own-comes = refl
 
 -- the wrapper is held and the gap begins
-gap-begun : (held : List ℕ) → over (one example.second (record { at = quietly; held = held }) comes .state) ≡ false
+gap-begun : (held : List ℕ) → over (one sample.second (record { at = quietly; held = held }) comes .state) ≡ false
 unfolding one messageSizes wrapperOn wrapperOf number stepped judged judgedBy consistent distance
     taken heard farther placed nextOne placeFor holds lowestFree released releaseFrom nextHeld settled gapped settle.lost closed acknowledged asked spared planned
 gap-begun held = refl
@@ -281,8 +280,8 @@ gap-begun held = refl
 gap-follows : over (channelAt 5 (tableStep before comes .state)) ≡ false
 unfolding channelAt viewAt
 gap-follows =
-    ap (λ (m : Came Channel Told). over (m .state)) (own-law 5 example.second 7 .mine before comes joined-quietly lawful-comes own-comes)
-    ∙ gap-begun (slab 5 (example.heldOf 0))
+    ap (λ (m : Came Channel Told). over (m .state)) (own-law 5 sample.second 7 .mine before comes joined-quietly lawful-comes own-comes)
+    ∙ gap-begun (slab 5 (sample.heldOf 0))
 
 -- in a hundred times a second the channel is without a gap or left; the profile's numbers ask for fewer
 abbrev seconds : List Call
@@ -295,10 +294,10 @@ lawful-seconds = by 100
     by zero = none
     by (suc n) = more tt (by n)
 
-time-enough : bound (quietly .terms) < timeIn (ownOf (own example.second 7) seconds)
+time-enough : bound (quietly .terms) < timeIn (ownOf (own sample.second 7) seconds)
 unfolding bound nakTimeout nakTimeoutFactor maxRetries timeIn ownOf own elapsedSizes
 time-enough = lit< tt
 
-it-ends : everOver (shown (own example.second 7) (viewAt 5) live (run tableStep (tableStep before comes .state) seconds)) ≡ true
+it-ends : everOver (shown (own sample.second 7) (viewAt 5) live (run tableStep (tableStep before comes .state) seconds)) ≡ true
 unfolding channelAt closed
-it-ends = gap-ends 5 example.second 7 before comes seconds lawful-comes lawful-seconds joined-quietly refl gap-follows time-enough
+it-ends = gap-ends 5 sample.second 7 before comes seconds lawful-comes lawful-seconds joined-quietly refl gap-follows time-enough

@@ -13,7 +13,7 @@ use mathlib.Core.List.{List, [], _∷_, _++_, map}
 use mathlib.Core.Logic.{_⊎_, inl, inr, _≢_}
 use mathlib.Core.Path.{_≡_, refl, sym, ap, ap₂, subst, _∙_}
 use native.Mathlib.Omega.{arith}
-use lib.Dec.{ltb, eqb}
+use lib.Dec.{ltb, eqb, lit≤, lit<}
 use lib.IntN.{pos}
 use lib.ListN.{length, getD, take, set, replicate}
 use Rattle.octets.specs.Octets.{number}
@@ -36,7 +36,6 @@ use Rattle.record.specs.declared.Place.{Place}
 use Rattle.record.specs.declared.Record.{Record}
 use Rattle.gap.specs.Elapsed.{elapsedOf}
 use Rattle.gap.specs.declared.Elapsed.{Elapsed}
-use Rattle.record.proofs.Choices.{either, never}
 use Rattle.gap.proofs.Moves.{Move, stands, expires, lost, goes-on, moves}
 use Rattle.wrapper.specs.Judge.{heard}
 use Rattle.wrapper.specs.Hold.{placed}
@@ -63,22 +62,23 @@ use Rattle.asking.specs.declared.Asked.{Asked}
 use Rattle.member.specs.Sizes.{tableSize, heldSize, deliverSize, replySize, messageSizes}
 use Rattle.member.specs.Messages.{Outcome, refusedMessage, existingAt, isFound, joinDone, joinOutcome, planOutcome, wrapperOutcome, askedOutcome, messageOutcome}
 use Rattle.member.specs.declared.Given.the-variants as given
-use Rattle.demands.specs.Runs.{Came, run, ownOf, shown}
+use Rattle.demands.specs.Runs.{Came, run, ownOf, shown, Each, none, more}
 use Rattle.demands.specs.Calls as calls
 use Rattle.demands.specs.Calls.{Call, State, tableStep, Sound, Lawful, Right}
 use Rattle.demands.specs.Channel.{Channel, Told, own, one, live, channelAt, viewAt, planned, elapsedOn, names, isCid}
-use Rattle.demands.specs.Order.{deliveredIn, deliveredAll, InTurn, reliableNumbers, following}
-use Rattle.demands.proofs.Running.{Each, none, more, own-each, along}
-use Rattle.demands.proofs.OneStep.{refuses, joins, brought, Does, answers, wraps, passes, leaves, does}
-use Rattle.demands.proofs.Asks as asks
-use Rattle.demands.proofs.Asks.{Asks}
-use Rattle.demands.proofs.OneMessage.{lent-length}
-use Rattle.demands.proofs.Brought.{wrapper-says}
+use Rattle.demands.specs.Order.{deliveredIn, deliveredAll, InTurn, reliableNumbers, following, BroughtBy, here, later, From, received, kept, Makes, makes}
+use Rattle.demands.proofs.Lemmas.Running.{own-each, along}
+use Rattle.demands.proofs.Lemmas.OneStep.{refuses, joins, brought, Does, answers, wraps, passes, leaves, does}
+use Rattle.demands.proofs.Lemmas.Asks as asks
+use Rattle.demands.proofs.Lemmas.Asks.{Asks}
+use Rattle.record.proofs.Choices.{either, never}
+use Rattle.demands.proofs.Lemmas.OneMessage.{lent-length}
+use Rattle.demands.proofs.Lemmas.Brought.{wrapper-says}
 use Rattle.demands.proofs.TableStays.{table-stays}
-use Rattle.demands.proofs.OwnStepsOnly.{Joined, own-law}
-use Rattle.demands.proofs.OwnStepsOnly as example
-use Rattle.demands.proofs.Sample as sample
-use Rattle.demands.proofs.NothingInvented.{BroughtBy, here, later, From, received, kept, each-to, nothing-invented, comes, lawful-comes, delivers-both}
+use Rattle.demands.specs.TwoRuns.{Joined}
+use Rattle.demands.proofs.OwnStepsOnly.{own-law}
+use Rattle.demands.proofs.Lemmas.Sample as sample
+use Rattle.demands.proofs.NothingInvented.{each-to, nothing-invented, comes, lawful-comes, delivers-both}
 
 -- ---- one step
 
@@ -157,12 +157,6 @@ has-place {i} {owner} {channel} {s} j =
     let within = found-at owner channel (s .table) i (tables.found-formed formed owner channel i (j .has)) .0 in
     rw (j .right .eight) at within
 
--- the call c is a Join j of this owner for this channel, and it makes record i
-pub data Makes (s : State) : Call → ℕ → Cid → ℕ → Join → Type 0 where
-  makes : (held deliver reply : ℕ) (sender ours : List ℕ) (v : ℕ) (d : List ℕ) (n i : ℕ) (p : Parameters)
-      → messageOutcome (s .table) (calls.lentAs held (s .held)) deliver reply sender ours v d n .given ≡ given.Joined (search.At i) (decision.Make p)
-      → Makes s (calls.message held deliver reply sender ours v d n) i (cidAt sender 0) (joinOf d .channel) (joinOf d)
-
 nothing : (h : Channel) → InTurn (h .at .total) (h .at .reliable) []
 unfolding InTurn
 nothing h = tt
@@ -214,13 +208,13 @@ in-order t n (x ∷ xs) hn (more hx small) turns =
     by false q rest = rest ∙ ap (λ (k : ℕ). following k (length (reliableNumbers xs))) (sym (distance-zero (n .0) m hn hx .0 q))
 
 -- the numbers of what is delivered were read from four octets, or stood in the record
-brought-small : {x : Delivered} (cs : List Call) → Each Lawful cs → BroughtBy x cs → Small x
-brought-small (calls.message held deliver reply sender ours v d n ∷ cs) (more o each) (here w e) = rw e (wrapper-says v d o .1)
+brought-small : {x : Delivered} (cs : List Call) {ms : List (Came Channel Told)} → Each Lawful cs → BroughtBy x cs ms → Small x
+brought-small (calls.message held deliver reply sender ours v d n ∷ cs) (more o each) (here w e t) = rw e (wrapper-says v d o .1)
 brought-small (c ∷ cs) (more o each) (later b) = brought-small cs each b
 
-known-small : (h : Channel) (cs : List Call) → Sound (h .at) → Each Lawful cs → (x : Delivered) → From h cs x → Small x
-known-small h cs sound each x (received b) = brought-small cs each b
-known-small h cs sound each x (kept j u e) = rw e (sound .held j)
+known-small : (h : Channel) (cs : List Call) (ms : List (Came Channel Told)) → Sound (h .at) → Each Lawful cs → (x : Delivered) → From h cs ms x → Small x
+known-small h cs ms sound each x (received b) = brought-small cs each b
+known-small h cs ms sound each x (kept j u e) = rw e (sound .held j)
 
 -- the reliable numbers delivered are those that follow R, each once and in order
 pub reliable-in-order : (i : ℕ) (owner : Cid) (channel : ℕ) (s : State) (cs : List Call) → Each Lawful cs → Joined i owner channel s
@@ -231,7 +225,7 @@ reliable-in-order i owner channel s cs each joined =
     let sound = joined .right .sound i (has-place joined) in
     in-order (recordAt (s .table) i .total) (recordAt (s .table) i .reliable) _ (sound .reliable)
     (each-to _
-    (known-small (channelAt i s) (ownOf (own owner channel) cs) sound
+    (known-small (channelAt i s) (ownOf (own owner channel) cs) _ sound
     (each-to (ownOf (own owner channel) cs) (λ c w. w .0) (own-each (own owner channel) cs each)))
     (nothing-invented i owner channel s cs each joined))
     (run-in-turn i owner channel s cs each joined)
@@ -372,14 +366,21 @@ joined-in-order i owner channel s c cs j right lawful each made =
 
 -- ---- an example: on channel 7 of the first owner 11 comes while 12 is held; and a second channel is joined
 
-numbers : reliableNumbers (deliveredAll (shown (own example.first 7) (viewAt 2) live (run tableStep (example.stateOf example.free 0) comes))) ≡ 11 ∷ 12 ∷ []
+numbers : reliableNumbers (deliveredAll (shown (own sample.first 7) (viewAt 2) live (run tableStep (sample.stateOf sample.free 0) comes))) ≡ 11 ∷ 12 ∷ []
 unfolding reliableNumbers wrapperOf number
 numbers = ap reliableNumbers delivers-both
 
-in-order-of : reliableNumbers (deliveredAll (shown (own example.first 7) (viewAt 2) live (run tableStep (example.stateOf example.free 0) comes)))
-    ≡ following 10 (length (reliableNumbers (deliveredAll (shown (own example.first 7) (viewAt 2) live (run tableStep (example.stateOf example.free 0) comes)))))
+in-order-of : reliableNumbers (deliveredAll (shown (own sample.first 7) (viewAt 2) live (run tableStep (sample.stateOf sample.free 0) comes)))
+    ≡ following 10 (length (reliableNumbers (deliveredAll (shown (own sample.first 7) (viewAt 2) live (run tableStep (sample.stateOf sample.free 0) comes)))))
 unfolding channelAt
-in-order-of = reliable-in-order 2 example.first 7 (example.stateOf example.free 0) comes lawful-comes example.joined-one
+in-order-of = reliable-in-order 2 sample.first 7 (sample.stateOf sample.free 0) comes lawful-comes sample.joined-one
+
+-- the two numbers differ
+once : getD (reliableNumbers (deliveredAll (shown (own sample.first 7) (viewAt 2) live (run tableStep (sample.stateOf sample.free 0) comes)))) 0 0
+    ≢ getD (reliableNumbers (deliveredAll (shown (own sample.first 7) (viewAt 2) live (run tableStep (sample.stateOf sample.free 0) comes)))) 1 0
+once =
+    delivered-once 2 sample.first 7 (sample.stateOf sample.free 0) comes lawful-comes sample.joined-one 0 1
+    (rw numbers (lit≤ tt)) (lit< tt) (rw numbers (lit< tt))
 
 -- the second owner's Join is answered with reciprocal channel 9
 abbrev joinCall : Call
@@ -387,17 +388,17 @@ joinCall = calls.message heldSize deliverSize replySize (sample.cid 3 4) (replic
 
 -- it is made in the lowest free record
 pub makes-with : (lent : List ℕ) → length lent ≡ heldSize
-    → messageOutcome (example.tableOf example.free) lent deliverSize replySize (sample.cid 3 4) (replicate 16 0) 4 sample.joinData 9 .given
+    → messageOutcome (sample.tableOf sample.free) lent deliverSize replySize (sample.cid 3 4) (replicate 16 0) 4 sample.joinData 9 .given
     ≡ given.Joined (search.At 0) (decision.Make (parametersAt sample.joinData 31))
 unfolding messageOutcome messageSizes askedOf readMessage readable readableJoin lengthOf look messageOf joinOf addressOf parametersAt joinAsks joinOutcome
     found lowestFree named same cidAt number decided decideNew legal legalBlock legalNames legalParameters minExpiry
-makes-with lent l = rw (l, example.joined-one .right .formed)
+makes-with lent l = rw (l, sample.joined-one .right .formed)
 
-makes-first : Makes (example.stateOf example.free 0) joinCall 0 example.second 7 (joinOf sample.joinData)
+makes-first : Makes (sample.stateOf sample.free 0) joinCall 0 sample.second 7 (joinOf sample.joinData)
 unfolding cidAt joinOf number
 makes-first =
     makes heldSize deliverSize replySize (sample.cid 3 4) (replicate 16 0) 4 sample.joinData 9 0 (parametersAt sample.joinData 31)
-    (makes-with (calls.lentAs heldSize (example.heldOf 0)) (lent-length heldSize (example.heldOf 0)))
+    (makes-with (calls.lentAs heldSize (sample.heldOf 0)) (lent-length heldSize (sample.heldOf 0)))
 
 -- and its first wrapper comes, with number 11
 abbrev first-comes : List Call
@@ -406,13 +407,13 @@ first-comes = sample.wrapperCall (sample.cid 3 4) 11 (4 ∷ 5 ∷ 6 ∷ []) ∷ 
 lawful-first : Each Lawful first-comes
 lawful-first = more (sample.lawful (sample.wrapperData 11 (4 ∷ 5 ∷ 6 ∷ [])) refl) none
 
-own-first : ownOf (own example.second 7) first-comes ≡ first-comes
+own-first : ownOf (own sample.second 7) first-comes ≡ first-comes
 unfolding ownOf own isCid cidAt number same names readable lengthOf look wrapperOf
 own-first = refl
 
 joined-turn : InTurn (total 10) (reliable 10)
-    (deliveredAll (shown (own example.second 7) (viewAt 0) live (run tableStep (tableStep (example.stateOf example.free 0) joinCall .state) first-comes)))
+    (deliveredAll (shown (own sample.second 7) (viewAt 0) live (run tableStep (tableStep (sample.stateOf sample.free 0) joinCall .state) first-comes)))
 unfolding joinOf number
 joined-turn =
-    joined-in-turn 0 example.second 7 (example.stateOf example.free 0) joinCall first-comes (joinOf sample.joinData) (example.joined-one .right)
+    joined-in-turn 0 sample.second 7 (sample.stateOf sample.free 0) joinCall first-comes (joinOf sample.joinData) (sample.joined-one .right)
     (sample.lawful sample.joinData refl) lawful-first makes-first

@@ -1,30 +1,14 @@
--- The theorems that meet the demands, and what they are put together from.
-pub mod Back
-pub mod Again
+-- The theorems that meet the demands, a file each; what they are put together from is below `Lemmas`.
+pub mod Lemmas
 pub mod RoundTrip
 pub mod Examples
-pub mod Checks
 pub mod Refusals
 pub mod BlockRefusals
 pub mod OneOutcome
-pub mod Running
-pub mod Kept
-pub mod OneStep
-pub mod Sounds
-pub mod Brought
 pub mod TableStays
-pub mod Slabs
-pub mod Outcomes
 pub mod Frame
 pub mod RoomsSay
-pub mod Asks
-pub mod TermsStay
-pub mod Owned
-pub mod OneMessage
-pub mod OneCall
-pub mod Agreeing
 pub mod OwnStepsOnly
-pub mod Sample
 pub mod GapEnds
 pub mod NothingInvented
 pub mod InTurn

@@ -1,5 +1,5 @@
 -- Nothing is invented: every wrapper that a run delivers for a channel has the contents and the numbers of a wrapper message that the channel's owner
--- sent it in this run, or of one that it held at the start (`nothing-invented`). As that is so of every run, it is so of every beginning of one: nothing
+-- sent it in this run and that was not refused, or of one that it held at the start (`nothing-invented`). As that is so of every run, it is so of every beginning of one: nothing
 -- is delivered before it came. And every NAK that a run sends for the channel carries R, the last number delivered, and asks for at least one number:
 -- from R + 1 on, none past K, the highest that is known to have been sent, and none that is held (`only-missing`). Both assume that the channel is
 -- joined in a right table at the start and that the data of messages are octets (`Joined`, `Lawful`); the example at the end meets that, delivers two
@@ -54,44 +54,19 @@ use Rattle.carry.proofs.OwnPlaces.{other-place}
 use Rattle.record.proofs.Stored.{used-below}
 use Rattle.carry.proofs.PlanFits.{Kept, Taking, taking}
 use Rattle.member.specs.Sizes.{messageSizes, elapsedSizes}
-use Rattle.demands.specs.Runs.{Came, run, ownOf, alone, shown}
+use Rattle.demands.specs.Runs.{Came, run, ownOf, alone, shown, Each, none, more}
 use Rattle.demands.specs.Calls as calls
 use Rattle.demands.specs.Calls.{Call, State, tableStep, Lawful}
-use Rattle.demands.specs.Channel.{Channel, Told, isWrapper, names, isCid, own, wrapperOn, one, live, channelAt, viewAt, passed, planned, elapsedOn}
-use Rattle.demands.specs.Order.{deliveredIn, deliveredAll}
-use Rattle.demands.proofs.Running.{Each, none, more, along}
-use Rattle.demands.proofs.Slabs.{slab, slab-place, slab-after}
-use Rattle.demands.proofs.OneStep.{refuses, joins, brought, Does, answers, wraps, passes, leaves, does}
-use Rattle.demands.proofs.Owned.{Has, it-has}
-use Rattle.demands.proofs.Agreeing.{elapsed-places}
-use Rattle.demands.proofs.OwnStepsOnly.{Joined, own-law}
-use Rattle.demands.proofs.OwnStepsOnly as example
-use Rattle.demands.proofs.Sample as sample
-
--- the wrapper that a call brings, as it is delivered
-abbrev pub asSent : ℕ → List ℕ → Delivered
-asSent v d =
-    record {
-      delivery =
-          record {
-            reliably = eqb v reliableWrapper;
-            total = wrapperOf d .total;
-            reliable = wrapperOf d .reliable;
-            len = length (contents d);
-          };
-      contents = contents d;
-    }
-
--- x was brought by one of these calls
-pub data BroughtBy (x : Delivered) : List Call → Type 0 where
-  here : {held deliver reply : ℕ} {sender ours : List ℕ} {v : ℕ} {d : List ℕ} {n : ℕ} {cs : List Call} → isWrapper v ≡ true → x ≡ asSent v d
-      → BroughtBy x (calls.message held deliver reply sender ours v d n ∷ cs)
-  later : {c : Call} {cs : List Call} → BroughtBy x cs → BroughtBy x (c ∷ cs)
-
--- x came in one of these calls, or the channel h holds it in one of its places
-pub data From (h : Channel) (cs : List Call) (x : Delivered) : Type 0 where
-  received : BroughtBy x cs → From h cs x
-  kept : (j : ℕ) → getD (h .at .places) j noPlace .used ≡ true → x ≡ fromPlace (h .held) 0 j (getD (h .at .places) j noPlace) → From h cs x
+use Rattle.demands.specs.Channel.{Channel, Told, names, isCid, own, wrapperOn, one, live, channelAt, viewAt, passed, planned, elapsedOn, slab}
+use Rattle.demands.specs.Order.{deliveredIn, deliveredAll, asSent, BroughtBy, here, later, From, received, kept, NakRight}
+use Rattle.demands.proofs.Lemmas.Running.{along}
+use Rattle.demands.proofs.Lemmas.Slabs.{slab-place, slab-after}
+use Rattle.demands.proofs.Lemmas.OneStep.{refuses, joins, brought, Does, answers, wraps, passes, leaves, does}
+use Rattle.demands.proofs.Lemmas.Owned.{Has, it-has}
+use Rattle.demands.proofs.Lemmas.Agreeing.{elapsed-places}
+use Rattle.demands.specs.TwoRuns.{Joined}
+use Rattle.demands.proofs.OwnStepsOnly.{own-law, own-run}
+use Rattle.demands.proofs.Lemmas.Sample as sample
 
 -- ---- lists
 
@@ -129,7 +104,8 @@ held-reliable r w j e = by (nextOne (heard r (w .reliable)) w) (w .reliably) ref
     by false false q f = never (cc)
 
 -- what comes from places that stand comes from them one call earlier
-stood : {x : Delivered} {c : Call} {cs : List Call} (g h : Channel) → g .at .places ≡ h .at .places → g .held ≡ h .held → From g cs x → From h (c ∷ cs) x
+stood : {x : Delivered} {c : Call} {cs : List Call} {m : Came Channel Told} {ms : List (Came Channel Told)} (g h : Channel) → g .at .places ≡ h .at .places
+    → g .held ≡ h .held → From g cs ms x → From h (c ∷ cs) (m ∷ ms) x
 stood g h p q (received b) = received (later b)
 stood {x} g h p q (kept j u e) =
     kept j
@@ -188,95 +164,94 @@ module _ (i : ℕ) (owner : Cid) (channel : ℕ) (s : State) (joined : Joined i 
         z (rw same e))
         ∙ sym (slab-place i j n (s .held) hj hn)
 
-    module _ (c : Call) (cs : List Call) (brings : BroughtBy (asSent v d) (c ∷ cs)) where
-      abbrev Known : Delivered → Type 0
-      Known = From (channelAt i s) (c ∷ cs)
+    module _
+        (c : Call)
+        (cs : List Call)
+        (m : Came Channel Told)
+        (ms : List (Came Channel Told))
+        (brings : BroughtBy (asSent v d) (c ∷ cs) (m ∷ ms))
+      where
+        abbrev Known : Delivered → Type 0
+        Known = From (channelAt i s) (c ∷ cs) (m ∷ ms)
 
-      -- a place that is used after step 3 holds the wrapper itself, or what it held before
-      place-from : (j : ℕ) → getD between j noPlace .used ≡ true → Known (fromPlace octets 0 j (getD between j noPlace))
-      unfolding channelAt
-      place-from j u = by (t .kept j u)
-        where
-          by : Kept r (brought v d) (plan .fate) between j → Known (fromPlace octets 0 j (getD between j noPlace))
-          by (inl a) =
-              subst Known
-              (sym
-              (ap (fromPlace octets 0 j) (a .1)
-              ∙ as-held octets v d j (held-reliable r (brought v d) j (a .0)) (written j (a .0))))
-              (received brings)
-          by (inr a) =
-              let used = subst (λ (p : Place). p .used ≡ true) (a .1) u in
-              let below : j < 4 = omega (arith, used-below (r .places) j used, it .four) in
-              let fits = formed r (it .formed .each i) (it .used) .held j used .contents in
-              subst (λ (p : Place). Known (fromPlace octets 0 j p)) (sym (a .1))
-              (kept j used
-              (ap (λ (o : List ℕ). record { delivery = fromPlace octets 0 j (getD (r .places) j noPlace) .delivery; contents = o })
-              (beside j _ below fits (a .0))))
+        -- a place that is used after step 3 holds the wrapper itself, or what it held before
+        place-from : (j : ℕ) → getD between j noPlace .used ≡ true → Known (fromPlace octets 0 j (getD between j noPlace))
+        unfolding channelAt
+        place-from j u = by (t .kept j u)
+          where
+            by : Kept r (brought v d) (plan .fate) between j → Known (fromPlace octets 0 j (getD between j noPlace))
+            by (inl a) =
+                subst Known
+                (sym
+                (ap (fromPlace octets 0 j) (a .1)
+                ∙ as-held octets v d j (held-reliable r (brought v d) j (a .0)) (written j (a .0))))
+                (received brings)
+            by (inr a) =
+                let used = subst (λ (p : Place). p .used ≡ true) (a .1) u in
+                let below : j < 4 = omega (arith, used-below (r .places) j used, it .four) in
+                let fits = formed r (it .formed .each i) (it .used) .held j used .contents in
+                subst (λ (p : Place). Known (fromPlace octets 0 j p)) (sym (a .1))
+                (kept j used
+                (ap (λ (o : List ℕ). record { delivery = fromPlace octets 0 j (getD (r .places) j noPlace) .delivery; contents = o })
+                (beside j _ below fits (a .0))))
 
-      -- what is in the places after the step
-      after-from : (x : Delivered) → From (planned (channelAt i s) (brought v d) (contents d) plan .state) cs x → Known x
-      unfolding planned channelAt
-      after-from x (received b) = received (later b)
-      after-from x (kept j u e) = by (t .each j)
-        where
-          by : (getD (plan .after .places) j noPlace ≡ getD between j noPlace) ⊎ Freed (getD between j noPlace) (getD (plan .after .places) j noPlace)
-              → Known x
-          by (inl q) =
-              subst Known (sym (e ∙ ap (fromPlace octets 0 j) q)) (place-from j (subst (λ (p : Place). p .used ≡ true) q u))
-          by (inr f) = absurd (false≢true (sym (ap (λ (p : Place). p .used) (f .1)) ∙ u))
+        -- what is in the places after the step
+        after-from : (x : Delivered) → From (planned (channelAt i s) (brought v d) (contents d) plan .state) cs ms x → Known x
+        unfolding planned channelAt
+        after-from x (received b) = received (later b)
+        after-from x (kept j u e) = by (t .each j)
+          where
+            by : (getD (plan .after .places) j noPlace ≡ getD between j noPlace) ⊎ Freed (getD between j noPlace) (getD (plan .after .places) j noPlace)
+                → Known x
+            by (inl q) =
+                subst Known (sym (e ∙ ap (fromPlace octets 0 j) q)) (place-from j (subst (λ (p : Place). p .used ≡ true) q u))
+            by (inr f) = absurd (false≢true (sym (ap (λ (p : Place). p .used) (f .1)) ∙ u))
 
-      -- what the step delivers
-      at-once : (f : Fate) → Each Known (atOnce f (brought v d) (contents d))
-      at-once fate.Delivered = more (received brings) none
-      at-once (fate.Held j) = none
-      at-once fate.Dropped = none
+        -- what the step delivers
+        at-once : (f : Fate) → Each Known (atOnce f (brought v d) (contents d))
+        at-once fate.Delivered = more (received brings) none
+        at-once (fate.Held j) = none
+        at-once fate.Dropped = none
 
-      delivered-from : Each Known (deliveredBy (slab i (s .held)) 0 (brought v d) (contents d) plan)
-      unfolding deliveredBy
-      delivered-from =
-          each-append (atOnce (plan .fate) (brought v d) (contents d)) _ (at-once (plan .fate))
-          (each-of (λ j. fromPlace octets 0 j (getD (plan .after .places) j noPlace)) (take (plan .count) (plan .order))
-          (of-first (λ j. Known (fromPlace octets 0 j (getD (plan .after .places) j noPlace))) (plan .count) (plan .order)
-          (λ k l.
-          let f = t .ordered k l in
-          let j = getD (plan .order) k 0 in
-          subst (λ (p : Place). Known (fromPlace octets 0 j p)) (sym (f .1)) (place-from j (f .0)))))
+        delivered-from : Each Known (deliveredBy (slab i (s .held)) 0 (brought v d) (contents d) plan)
+        unfolding deliveredBy
+        delivered-from =
+            each-append (atOnce (plan .fate) (brought v d) (contents d)) _ (at-once (plan .fate))
+            (each-of (λ j. fromPlace octets 0 j (getD (plan .after .places) j noPlace)) (take (plan .count) (plan .order))
+            (of-first (λ j. Known (fromPlace octets 0 j (getD (plan .after .places) j noPlace))) (plan .count) (plan .order)
+            (λ k l.
+            let f = t .ordered k l in
+            let j = getD (plan .order) k 0 in
+            subst (λ (p : Place). Known (fromPlace octets 0 j p)) (sym (f .1)) (place-from j (f .0)))))
 
   -- what an own call delivers is known, and so is what goes on from there
-  step-from : {c : Call} {m : Came Channel Told} → Does (channelAt i s) c m → (cs : List Call) (xs : List Delivered) → Each (From (m .state) cs) xs
-      → Each (From (channelAt i s) (c ∷ cs)) (deliveredIn (m .answer) ++ xs)
+  step-from : {c : Call} {m : Came Channel Told} → Does (channelAt i s) c m → (cs : List Call) (ms : List (Came Channel Told)) (xs : List Delivered)
+      → Each (From (m .state) cs ms) xs → Each (From (channelAt i s) (c ∷ cs) (m ∷ ms)) (deliveredIn (m .answer) ++ xs)
   unfolding planned elapsedOn channelAt
-  step-from (answers t (refuses n) z) cs xs rest = each-to xs (λ x. stood (channelAt i s) (channelAt i s) refl refl) rest
-  step-from (answers t (joins d reply) z) cs xs rest = each-to xs (λ x. stood (channelAt i s) (channelAt i s) refl refl) rest
-  step-from (wraps v d w fits fresh) cs xs rest =
+  step-from (answers t (refuses n) z) cs ms xs rest = each-to xs (λ x. stood (channelAt i s) (channelAt i s) refl refl) rest
+  step-from (answers t (joins d reply) z) cs ms xs rest = each-to xs (λ x. stood (channelAt i s) (channelAt i s) refl refl) rest
+  step-from (wraps v d w fits fresh) cs ms xs rest =
       each-append (deliveredBy (slab i (s .held)) 0 (brought v d) (contents d) (taken (recordAt (s .table) i) (brought v d))) xs
-      (delivered-from v d fits _ cs (here w refl)) (each-to xs (after-from v d fits _ cs (here w refl)) rest)
-  step-from (passes ms) cs xs rest =
-      each-to xs (λ x. stood (elapsedOn (channelAt i s) ms .state) (channelAt i s) (elapsed-places (recordAt (s .table) i) ms) refl) rest
-  step-from (leaves reason) cs xs rest =
+      (delivered-from v d fits _ cs _ ms (here w refl refl)) (each-to xs (after-from v d fits _ cs _ ms (here w refl refl)) rest)
+  step-from (passes t) cs ms xs rest =
+      each-to xs (λ x. stood (elapsedOn (channelAt i s) t .state) (channelAt i s) (elapsed-places (recordAt (s .table) i) t) refl) rest
+  step-from (leaves reason) cs ms xs rest =
       each-to xs (λ x. stood (record { at = freed (recordAt (s .table) i); held = slab i (s .held) }) (channelAt i s) refl refl) rest
 
 -- ---- the run
 
 pub nothing-invented : (i : ℕ) (owner : Cid) (channel : ℕ) (s : State) (cs : List Call) → Each Lawful cs → Joined i owner channel s
-    → Each (From (channelAt i s) (ownOf (own owner channel) cs))
+    → Each (From (channelAt i s) (ownOf (own owner channel) cs) (shown (own owner channel) (viewAt i) live (run tableStep s cs)))
     (deliveredAll (shown (own owner channel) (viewAt i) live (run tableStep s cs)))
 unfolding deliveredAll
 nothing-invented i owner channel s cs each joined =
-    along (own-law i owner channel) (λ h ocs ms. Each (From h ocs) (deliveredAll ms))
+    along (own-law i owner channel) (λ h ocs ms. Each (From h ocs ms) (deliveredAll ms))
     (λ h. none)
-    (λ r c ds ms j w e alive rest. step-from i owner channel r j (does (channelAt i r) owner c) ds (deliveredAll ms) rest)
-    (λ r c ds j w e dead. step-from i owner channel r j (does (channelAt i r) owner c) ds [] none)
+    (λ r c ds ms j w e alive rest. step-from i owner channel r j (does (channelAt i r) owner c) ds ms (deliveredAll ms) rest)
+    (λ r c ds j w e dead. step-from i owner channel r j (does (channelAt i r) owner c) ds [] [] none)
     s cs each joined
 
 -- ---- NAKs
-
--- the range of a NAK begins after R, ends before every held number, and not past K: R, K and the held wrappers are the channel's when it is sent
-abbrev pub NakRight : Came Channel Told → Type 0
-NakRight m =
-    (n first last : Reliable) (outbound : Bool) (octets : List ℕ) → m .answer ≡ passed (event.Nak n first last outbound) octets
-    → (n ≡ m .state .at .reliable)
-    × Asked (m .state .at .reliable .0) (m .state .at .known .0) (m .state .at .places) (first .0) (last .0)
 
 -- elapsed time lets R, K and the places stand
 move-right : (r : Record) (ms : ℕ) (n first last : Reliable) {o : Elapsed} → Move r ms o
@@ -328,13 +303,13 @@ comes = sample.wrapperCall (sample.cid 1 2) 11 (4 ∷ 5 ∷ 6 ∷ []) ∷ []
 pub lawful-comes : Each Lawful comes
 lawful-comes = more (sample.lawful (sample.wrapperData 11 (4 ∷ 5 ∷ 6 ∷ [])) refl) none
 
-pub own-comes : ownOf (own example.first 7) comes ≡ comes
+pub own-comes : ownOf (own sample.first 7) comes ≡ comes
 unfolding ownOf own isCid cidAt number same names readable lengthOf look wrapperOf
 own-comes = refl
 
 -- 11 is delivered as it came, and 12 as it was held
 delivers : (held : List ℕ)
-    → deliveredAll (alone (one example.first) live (record { at = example.holding example.first; held = held }) comes)
+    → deliveredAll (alone (one sample.first) live (record { at = sample.holding sample.first; held = held }) comes)
     ≡ asSent reliableWrapper (sample.wrapperData 11 (4 ∷ 5 ∷ 6 ∷ []))
     ∷ fromPlace held 0 0 (record { used = true; total = total 12; reliable = reliable 12; len = 3 })
     ∷ []
@@ -342,41 +317,43 @@ unfolding alone deliveredAll one messageSizes wrapperOn wrapperOf number stepped
     taken heard farther placed nextOne released releaseFrom releaseAt nextHeld settled gapped closed acknowledged asked spared planned deliveredBy
 delivers held = refl
 
-pub delivers-both : deliveredAll (shown (own example.first 7) (viewAt 2) live (run tableStep (example.stateOf example.free 0) comes))
+pub delivers-both : deliveredAll (shown (own sample.first 7) (viewAt 2) live (run tableStep (sample.stateOf sample.free 0) comes))
     ≡ asSent reliableWrapper (sample.wrapperData 11 (4 ∷ 5 ∷ 6 ∷ []))
-    ∷ fromPlace (slab 2 (example.heldOf 0)) 0 0 (record { used = true; total = total 12; reliable = reliable 12; len = 3 })
+    ∷ fromPlace (slab 2 (sample.heldOf 0)) 0 0 (record { used = true; total = total 12; reliable = reliable 12; len = 3 })
     ∷ []
 unfolding channelAt
 delivers-both =
-    ap deliveredAll (example.own-run 2 example.first 7 (example.stateOf example.free 0) comes lawful-comes example.joined-one)
-    ∙ ap (λ (cs : List Call). deliveredAll (alone (one example.first) live (channelAt 2 (example.stateOf example.free 0)) cs)) own-comes
-    ∙ delivers (slab 2 (example.heldOf 0))
+    ap deliveredAll (own-run 2 sample.first 7 (sample.stateOf sample.free 0) comes lawful-comes sample.joined-one)
+    ∙ ap (λ (cs : List Call). deliveredAll (alone (one sample.first) live (channelAt 2 (sample.stateOf sample.free 0)) cs)) own-comes
+    ∙ delivers (slab 2 (sample.heldOf 0))
 
-both-known : Each (From (channelAt 2 (example.stateOf example.free 0)) (ownOf (own example.first 7) comes))
-    (deliveredAll (shown (own example.first 7) (viewAt 2) live (run tableStep (example.stateOf example.free 0) comes)))
-both-known = nothing-invented 2 example.first 7 (example.stateOf example.free 0) comes lawful-comes example.joined-one
+both-known : Each
+    (From (channelAt 2 (sample.stateOf sample.free 0)) (ownOf (own sample.first 7) comes)
+    (shown (own sample.first 7) (viewAt 2) live (run tableStep (sample.stateOf sample.free 0) comes)))
+    (deliveredAll (shown (own sample.first 7) (viewAt 2) live (run tableStep (sample.stateOf sample.free 0) comes)))
+both-known = nothing-invented 2 sample.first 7 (sample.stateOf sample.free 0) comes lawful-comes sample.joined-one
 
 -- after the 50 milliseconds of its standoff the channel asks for 11 and no more
 abbrev waits : List Call
 waits = calls.elapsed 512 50 ∷ []
 
 asks-for : (held : List ℕ)
-    → map (λ (m : Came Channel Told). m .answer) (alone (one example.first) live (record { at = example.holding example.first; held = held }) waits)
+    → map (λ (m : Came Channel Told). m .answer) (alone (one sample.first) live (record { at = sample.holding sample.first; held = held }) waits)
     ≡ passed (event.Nak (reliable 10) (reliable 11) (reliable 11) false)
-    (eventOf (example.holding example.first .terms) (event.Nak (reliable 10) (reliable 11) (reliable 11) false))
+    (eventOf (sample.holding sample.first .terms) (event.Nak (reliable 10) (reliable 11) (reliable 11) false))
     ∷ []
 unfolding alone one elapsedOn elapsedOf phased inStandoff nakFirst nakLast nearest nearer
 asks-for held = refl
 
-asks-missing : map (λ (m : Came Channel Told). m .answer) (shown (own example.first 7) (viewAt 2) live (run tableStep (example.stateOf example.free 0) waits))
+asks-missing : map (λ (m : Came Channel Told). m .answer) (shown (own sample.first 7) (viewAt 2) live (run tableStep (sample.stateOf sample.free 0) waits))
     ≡ passed (event.Nak (reliable 10) (reliable 11) (reliable 11) false)
-    (eventOf (example.holding example.first .terms) (event.Nak (reliable 10) (reliable 11) (reliable 11) false))
+    (eventOf (sample.holding sample.first .terms) (event.Nak (reliable 10) (reliable 11) (reliable 11) false))
     ∷ []
 unfolding ownOf own elapsedSizes channelAt
 asks-missing =
     ap (map (λ (m : Came Channel Told). m .answer))
-    (example.own-run 2 example.first 7 (example.stateOf example.free 0) waits (more tt none) example.joined-one)
-    ∙ asks-for (slab 2 (example.heldOf 0))
+    (own-run 2 sample.first 7 (sample.stateOf sample.free 0) waits (more tt none) sample.joined-one)
+    ∙ asks-for (slab 2 (sample.heldOf 0))
 
-asks-right : Each NakRight (shown (own example.first 7) (viewAt 2) live (run tableStep (example.stateOf example.free 0) waits))
-asks-right = only-missing 2 example.first 7 (example.stateOf example.free 0) waits (more tt none) example.joined-one
+asks-right : Each NakRight (shown (own sample.first 7) (viewAt 2) live (run tableStep (sample.stateOf sample.free 0) waits))
+asks-right = only-missing 2 sample.first 7 (sample.stateOf sample.free 0) waits (more tt none) sample.joined-one

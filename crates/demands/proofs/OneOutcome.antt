@@ -1,62 +1,69 @@
--- The contract of each call over the table allows one outcome: any two answers, tables and contents of lent pieces that it allows for the same input are equal
--- (`message-one`, `elapsed-one`, `leave-one`). The records here say what the contracts of crates/member say, word by word. Assumes nothing.
+-- The contract of each public call allows one outcome: any two outcomes that it allows for the same input are equal. What a contract allows is said once, in
+-- specs/ of the call's crate (`MessageAllows` and the like), and the contract in the code and the theorem here use that very definition. Assumes nothing.
 use Prim.Native.Nat.{ℕ}
 use mathlib.Core.List.{List}
 use mathlib.Core.Path.{_≡_, sym, _∙_}
-use lib.ListN.{length}
+use Rattle.block.specs.Allowed.{ReadBlockAllows, OpenBlockAllows, NextMessageAllows}
+use Rattle.block.specs.declared.Cursor.{Cursor}
+use Rattle.message.specs.Allowed.{ReadMessageAllows}
+use Rattle.message.specs.declared.Message.{Message}
 use Rattle.record.specs.declared.Record.{Record}
-use Rattle.member.specs.Messages.{messageOutcome, messaged, deliverAfter, replyAfter}
-use Rattle.member.specs.Elapsing.{elapsedOutcome, passed, cellsAfter}
-use Rattle.member.specs.Leaving.{leaveOutcome, left, leftReply}
-use Rattle.member.specs.declared.Messaged.{Messaged}
-use Rattle.member.specs.declared.Passed.{Passed}
-use Rattle.member.specs.declared.Left.{Left}
+use Rattle.writing.specs.Allowed.{WriteMessageAllows}
+use Rattle.member.specs.Messages.{MessageAllows}
+use Rattle.member.specs.Elapsing.{ElapsedAllows}
+use Rattle.member.specs.Leaving.{LeaveAllows}
+use Rattle.plain.specs.declared.Plain.{Plain}
+use Rattle.sdt.specs.Allowed.{SdtReadBlockAllows, SdtOpenBlockAllows, SdtNextMessageAllows, SdtReadMessageAllows, SdtWriteMessageAllows}
+use Rattle.demands.specs.Contracts.{OneOutcome}
 
--- what a message call answers, and what the held octets, the delivery room and the reply room then hold
-pub record MessageEnds : Type 0 where
-  pub answer : Messaged
-  pub held : List ℕ
-  pub deliver : List ℕ
-  pub reply : List ℕ
+-- two that are the same third are equal
+one : {A : Type 0} {x : A} → OneOutcome (λ e. e ≡ x)
+one e f a b = a ∙ sym b
 
-pub record MessageAllows (ts : List Record) (held deliver reply sender ours : List ℕ) (v : ℕ) (d : List ℕ) (n : ℕ) (e : MessageEnds) : Type 0 where
-  pub answers : e .answer ≡ messaged (messageOutcome ts held (length deliver) (length reply) sender ours v d n)
-  pub holds : e .held ≡ messageOutcome ts held (length deliver) (length reply) sender ours v d n .held
-  pub delivers : e .deliver ≡ deliverAfter (messageOutcome ts held (length deliver) (length reply) sender ours v d n) deliver
-  pub replies : e .reply ≡ replyAfter (messageOutcome ts held (length deliver) (length reply) sender ours v d n) reply
+-- ---- the calls over the table (crate `member`)
 
-pub message-one : (ts : List Record) (held deliver reply sender ours : List ℕ) (v : ℕ) (d : List ℕ) (n : ℕ) (e f : MessageEnds)
-    → MessageAllows ts held deliver reply sender ours v d n e → MessageAllows ts held deliver reply sender ours v d n f → e ≡ f
-message-one ts held deliver reply sender ours v d n e f a b =
-    λ i.
-    record {
-      answer = (a .answers ∙ sym (b .answers)) i;
-      held = (a .holds ∙ sym (b .holds)) i;
-      deliver = (a .delivers ∙ sym (b .delivers)) i;
-      reply = (a .replies ∙ sym (b .replies)) i;
-    }
+pub message-one : (ts : List Record) (held deliver reply sender ours : List ℕ) (v : ℕ) (d : List ℕ) (n : ℕ)
+    → OneOutcome (MessageAllows ts held deliver reply sender ours v d n)
+message-one ts held deliver reply sender ours v d n = one
 
-pub record ElapsedEnds : Type 0 where
-  pub answer : Passed
-  pub cells : List ℕ
+pub elapsed-one : (ts : List Record) (cells : List ℕ) (ms : ℕ) → OneOutcome (ElapsedAllows ts cells ms)
+elapsed-one ts cells ms = one
 
-pub record ElapsedAllows (ts : List Record) (cells : List ℕ) (ms : ℕ) (e : ElapsedEnds) : Type 0 where
-  pub answers : e .answer ≡ passed (elapsedOutcome ts (length cells) ms)
-  pub sends : e .cells ≡ cellsAfter (elapsedOutcome ts (length cells) ms) cells
+pub leave-one : (ts : List Record) (reply owner : List ℕ) (channel reason : ℕ) → OneOutcome (LeaveAllows ts reply owner channel reason)
+leave-one ts reply owner channel reason = one
 
-pub elapsed-one : (ts : List Record) (cells : List ℕ) (ms : ℕ) (e f : ElapsedEnds) → ElapsedAllows ts cells ms e → ElapsedAllows ts cells ms f → e ≡ f
-elapsed-one ts cells ms e f a b =
-    λ i. record { answer = (a .answers ∙ sym (b .answers)) i; cells = (a .sends ∙ sym (b .sends)) i }
+-- ---- blocks (crate `block`)
 
-pub record LeaveEnds : Type 0 where
-  pub answer : Left
-  pub reply : List ℕ
+pub read-block-one : (s : List ℕ) (position : ℕ) → OneOutcome (ReadBlockAllows s position)
+read-block-one s position = one
 
-pub record LeaveAllows (ts : List Record) (reply owner : List ℕ) (channel reason : ℕ) (e : LeaveEnds) : Type 0 where
-  pub answers : e .answer ≡ left (leaveOutcome ts (length reply) owner channel reason)
-  pub replies : e .reply ≡ leftReply (leaveOutcome ts (length reply) owner channel reason) reply
+pub open-block-one : (s : List ℕ) → OneOutcome (OpenBlockAllows s)
+open-block-one s = one
 
-pub leave-one : (ts : List Record) (reply owner : List ℕ) (channel reason : ℕ) (e f : LeaveEnds)
-    → LeaveAllows ts reply owner channel reason e → LeaveAllows ts reply owner channel reason f → e ≡ f
-leave-one ts reply owner channel reason e f a b =
-    λ i. record { answer = (a .answers ∙ sym (b .answers)) i; reply = (a .replies ∙ sym (b .replies)) i }
+pub next-message-one : (s : List ℕ) (cursor : Cursor) → OneOutcome (NextMessageAllows s cursor)
+next-message-one s cursor = one
+
+-- ---- messages (crates `message` and `writing`)
+
+pub read-message-one : (v : ℕ) (d : List ℕ) → OneOutcome (ReadMessageAllows v d)
+read-message-one v d = one
+
+pub write-message-one : (m : Message) (c r : List ℕ) → OneOutcome (WriteMessageAllows m c r)
+write-message-one m c r = one
+
+-- ---- what C links (crate `sdt`)
+
+pub sdt-read-block-one : (s : List ℕ) (position : ℕ) → OneOutcome (SdtReadBlockAllows s position)
+sdt-read-block-one s position = one
+
+pub sdt-open-block-one : (s : List ℕ) → OneOutcome (SdtOpenBlockAllows s)
+sdt-open-block-one s = one
+
+pub sdt-next-message-one : (s : List ℕ) (cursor : Cursor) → OneOutcome (SdtNextMessageAllows s cursor)
+sdt-next-message-one s cursor = one
+
+pub sdt-read-message-one : (v : ℕ) (d : List ℕ) → OneOutcome (SdtReadMessageAllows v d)
+sdt-read-message-one v d = one
+
+pub sdt-write-message-one : (p : Plain) (c r : List ℕ) → OneOutcome (SdtWriteMessageAllows p c r)
+sdt-write-message-one p c r = one

@@ -4,54 +4,53 @@
 -- table of the machine's numbers (`Joined`) and that the data of messages are octets (`Lawful`); the example at the end meets that.
 use Prim.{tt}
 use Prim.Native.Nat.{ℕ, zero, suc, _<_, _≤_}
-use mathlib.Core.Bool.{Bool, true, false, false≢true}
+use mathlib.Core.Bool.{Bool, true, false, cond, and-eq-true-iff}
 use mathlib.Core.List.{List, [], _∷_, map}
-use mathlib.Core.Path.{_≡_, refl, sym, ap, ap₂, subst, _∙_}
+use mathlib.Core.Logic.{_⊎_, inl, inr}
+use mathlib.Core.Path.{_≡_, refl, sym, ap, subst, _∙_}
 use native.Mathlib.Omega.{arith}
-use lib.Dec.{lit<}
+use lib.Dec.{eqb, lit<, lit≤}
 use lib.ListN.{length, getD, replicate, length-replicate}
-use Rattle.octets.specs.Octets.{number, part, splice}
-use Rattle.octets.specs.Octets.{Octets}
-use Rattle.octets.proofs.Writes.{length-splice, part-splice}
+use Rattle.octets.specs.Octets.{number, part, Octets}
+use Rattle.octets.proofs.Writes.{part-splice}
 use Rattle.counter.specs.Distance.{distance}
-use Rattle.message.specs.Layouts.{total, reliable, cidAt}
+use Rattle.message.specs.Layouts.{cidAt, wrapperOf, joinOf}
+use Rattle.message.specs.Lengths.{join, look, lengthOf}
+use Rattle.message.specs.Reading.{readable}
 use Rattle.message.specs.declared.Cid.{Cid}
 use Rattle.record.specs.Legal.{legalNames, legalParameters}
 use Rattle.record.specs.Profile.{minExpiry, maxRetries}
 use Rattle.record.specs.WellFormed.{mostContents, heldRight, apart, apartFrom, heldApart, heldAllRight, closed, gapRight, termsRight, wellFormed}
 use Rattle.record.specs.declared.Gap.the-variants as gap
 use Rattle.record.specs.With.{withGap, withIdle}
-use Rattle.record.specs.declared.Place.{Place}
 use Rattle.record.specs.declared.Record.{Record}
 use Rattle.record.specs.declared.Terms.{Terms}
 use Rattle.record.proofs.Formed.{formed}
 use Rattle.gap.specs.Elapsed.{inStandoff, phased, elapsedOf}
 use Rattle.gap.specs.declared.Event.the-variants as event
 use Rattle.record.specs.Places.{noPlace}
-use Rattle.table.specs.Table.{same, named, differs, tableFormed, blank, recordAt}
+use Rattle.table.specs.Table.{same, named, differs, tableFormed, recordAt}
 use Rattle.table.proofs.Tables.{named-is, is-named}
 use Rattle.carry.specs.Carried.{placeBegins}
 use Rattle.record.proofs.Stored.{used-below}
-use Rattle.carry.proofs.DeliveredLength.{each-at}
+use Rattle.carry.proofs.HeldAgree.{Agree}
 use Rattle.sending.specs.Sent.{eventOf}
 use Rattle.member.specs.Sizes.{heldSize, elapsedSizes}
-use Rattle.demands.specs.Runs.{Came, run, ownOf, alone, shown}
+use Rattle.demands.specs.Runs.{Came, run, ownOf, alone, shown, Each, none, more}
 use Rattle.demands.specs.Calls as calls
-use Rattle.demands.specs.Calls.{Call, State, tableStep, Sound, Lawful, Right}
-use Rattle.demands.specs.Channel.{Channel, Told, passed, isCid, own, elapsedOn, one, live, channelAt, viewAt}
-use Rattle.demands.proofs.Running.{Each, none, more, own-each, Own, shown-alone, Likeness, alike-alone}
+use Rattle.demands.specs.Calls.{Call, State, tableStep, Lawful}
+use Rattle.demands.specs.Channel.{Channel, Told, passed, isCid, names, own, elapsedOn, one, live, channelAt, viewAt, slab}
+use Rattle.demands.specs.TwoRuns.{Joined, contentsAt, heldContents, SameChannel, counted, Seen, seenOf}
+use Rattle.demands.proofs.Lemmas.Running.{own-each, Own, shown-alone, Likeness, alike-alone}
 use Rattle.demands.proofs.TableStays.{table-stays}
-use Rattle.demands.proofs.Sounds.{Both, sound-by}
-use Rattle.demands.proofs.Slabs.{slab, slab-place}
-use Rattle.demands.proofs.TermsStay.{one-terms}
-use Rattle.demands.proofs.Owned.{it-has}
-use Rattle.demands.proofs.OneCall.{call-own, call-other}
-use Rattle.demands.proofs.Agreeing.{AgreeIn, Tells, one-tells}
-
--- a state in which record i has the channel
-pub record Joined (i : ℕ) (owner : Cid) (channel : ℕ) (s : State) : Type 0 where
-  pub right : Right s
-  pub has : named owner channel (recordAt (s .table) i) ≡ true
+use Rattle.demands.proofs.Lemmas.Slabs.{slab-place}
+use Rattle.demands.proofs.Lemmas.TermsStay.{one-terms}
+use Rattle.demands.specs.Refusals.{isWrapper}
+use Rattle.demands.proofs.Lemmas.Owned.{names-is, it-has}
+use Rattle.demands.proofs.Lemmas.Sample as sample
+use Rattle.demands.proofs.Lemmas.Sample.{holding, first, second, free, stateOf, heldOf, sound-holding, joined-in, joined-one}
+use Rattle.demands.proofs.Lemmas.OneCall.{call-own, call-other}
+use Rattle.demands.proofs.Lemmas.Agreeing.{Tells, one-tells}
 
 -- ---- one run
 
@@ -94,9 +93,9 @@ module _ (i : ℕ) (owner : Cid) (channel : ℕ) where
       }
 
 -- any other call leaves the channel: its record, and every octet of its places
-pub others-leave : (i : ℕ) (owner : Cid) (channel : ℕ) (s : State) (c : Call) → Joined i owner channel s → Lawful c → own owner channel c ≡ false
+pub others-leave : (i : ℕ) (owner : Cid) (channel : ℕ) (s : State) (c : Call) → Joined i owner channel s → own owner channel c ≡ false
     → channelAt i (tableStep s c .state) ≡ channelAt i s
-others-leave i owner channel s c joined lawful other = own-law i owner channel .others s c joined lawful other
+others-leave i owner channel s c joined other = call-other i owner channel s (joined .right) (joined .has) c other
 
 -- the one-run equation
 pub own-run : (i : ℕ) (owner : Cid) (channel : ℕ) (s : State) (cs : List Call) → Each Lawful cs → Joined i owner channel s
@@ -105,20 +104,18 @@ own-run i owner channel s cs each joined = shown-alone (own-law i owner channel)
 
 -- ---- two runs
 
--- the same record at the same place, and the same held wrappers: octets count only in used places and up to their lengths
-pub record SameChannel (i : ℕ) (s t : State) : Type 0 where
-  pub at : recordAt (s .table) i ≡ recordAt (t .table) i
-  pub held : (j : ℕ) → getD (recordAt (s .table) i .places) j noPlace .used ≡ true
-      → part (s .held) (placeBegins i j) (getD (recordAt (s .table) i .places) j noPlace .len)
-      ≡ part (t .held) (placeBegins i j) (getD (recordAt (s .table) i .places) j noPlace .len)
+-- the contents of one place, from those of all
+contents-at : (h k : Channel) → heldContents h ≡ heldContents k → (j : ℕ) → j < 4 → contentsAt h j ≡ contentsAt k j
+unfolding heldContents
+contents-at h k e zero l = ap (λ (cs : List (List ℕ)). getD cs 0 []) e
+contents-at h k e (suc zero) l = ap (λ (cs : List (List ℕ)). getD cs 1 []) e
+contents-at h k e (suc (suc zero)) l = ap (λ (cs : List (List ℕ)). getD cs 2 []) e
+contents-at h k e (suc (suc (suc zero))) l = ap (λ (cs : List (List ℕ)). getD cs 3 []) e
+contents-at h k e (suc (suc (suc (suc j)))) l = absurd (omega arith)
 
--- what is seen of the channel after one of its own calls: its record, and the answer with all octets delivered and replied
-pub record Seen : Type 0 where
-  pub at : Record
-  pub told : Told
-
-abbrev pub seenOf : Came Channel Told → Seen
-seenOf m = record { at = m .state .at; told = m .answer }
+contents-used : (h : Channel) (j : ℕ) → getD (h .at .places) j noPlace .used ≡ true
+    → contentsAt h j ≡ part (h .held) (placeBegins 0 j) (getD (h .at .places) j noPlace .len)
+contents-used h j u = ap (λ (b : Bool). cond b (part (h .held) (placeBegins 0 j) (getD (h .at .places) j noPlace .len)) []) u
 
 -- the channel of two states that are the same for it
 record Alike (i : ℕ) (owner : Cid) (channel : ℕ) (h k : Channel) : Type 0 where
@@ -140,6 +137,18 @@ module _ (i : ℕ) (owner : Cid) (channel : ℕ) where
         formed (recordAt (s .table) i) (has .formed .each i) (has .used) .held j u .contents,
       )
 
+  -- the same contents are octets that agree in the used places
+  octets-agree : (s t : State) → Joined i owner channel s → SameChannel i s t → Agree i (recordAt (s .table) i .places) (s .held) (t .held)
+  unfolding channelAt
+  octets-agree s t joined same j u =
+      let fits = held-fits s joined j u in
+      sym (slab-place i j _ (s .held) (fits .0) (fits .1))
+      ∙ sym (contents-used (channelAt i s) j u)
+      ∙ contents-at (channelAt i s) (channelAt i t) (same .held) j (fits .0)
+      ∙ ap (λ (r : Record). contentsAt (record { at = r; held = slab i (t .held) }) j) (sym (same .at))
+      ∙ contents-used (record { at = recordAt (s .table) i; held = slab i (t .held) }) j u
+      ∙ slab-place i j _ (t .held) (fits .0) (fits .1)
+
   module _ (s t : State) (c : Call) (joined-s : Joined i owner channel s) (joined-t : Joined i owner channel t) (same : SameChannel i s t) where
     tells : Tells (one owner (channelAt i s) c) (one owner (channelAt i t) c)
     unfolding channelAt
@@ -147,10 +156,10 @@ module _ (i : ℕ) (owner : Cid) (channel : ℕ) where
         let has = it-has i owner channel s (joined-s .right) (joined-s .has) in
         subst (λ (r : Record). Tells (one owner (channelAt i s) c) (one owner (record { at = r; held = slab i (t .held) }) c)) (same .at)
         (one-tells i (has .below) (recordAt (s .table) i) (has .used) (has .formed .each i) (has .four) (s .held) (t .held)
-        (joined-s .right .size) (joined-t .right .size) (same .held) owner c)
+        (joined-s .right .size) (joined-t .right .size) (octets-agree s t joined-s same) owner c)
 
     tells-seen : seenOf (one owner (channelAt i s) c) ≡ seenOf (one owner (channelAt i t) c)
-    tells-seen = ap₂ (λ (r : Record) (a : Told). record { at = r; told = a }) (tells .at) (tells .told)
+    tells-seen = λ j. record { at = tells .at j; contents = tells .contents j; told = tells .told j }
 
     module _ (lawful : Lawful c) (e : own owner channel c ≡ true) (lives : live (one owner (channelAt i s) c .state) ≡ true) where
       -- where the call leads is what the channel comes to
@@ -166,14 +175,6 @@ module _ (i : ℕ) (owner : Cid) (channel : ℕ) where
           stays-joined i owner channel t c joined-t lawful
           (ap live (leads t joined-t) ∙ sym (ap (λ (r : Record). r .used) (tells .at)) ∙ lives)
 
-      agree-after : AgreeIn (channelAt i (tableStep s c .state) .at .places) (channelAt i (tableStep s c .state) .held) (channelAt i (tableStep t c .state) .held)
-      agree-after =
-          subst (λ (h : Channel). AgreeIn (h .at .places) (h .held) (channelAt i (tableStep t c .state) .held)) (sym (leads s joined-s))
-          (subst
-          (λ (k : Channel). AgreeIn (one owner (channelAt i s) c .state .at .places) (one owner (channelAt i s) c .state .held) (k .held))
-          (sym (leads t joined-t))
-          (tells .held))
-
       same-after : SameChannel i (tableStep s c .state) (tableStep t c .state)
       unfolding channelAt
       same-after =
@@ -182,11 +183,7 @@ module _ (i : ℕ) (owner : Cid) (channel : ℕ) where
                 ap (λ (h : Channel). h .at) (leads s joined-s)
                 ∙ tells .at
                 ∙ sym (ap (λ (h : Channel). h .at) (leads t joined-t));
-            held = λ j u.
-                let fits = held-fits (tableStep s c .state) joined-after j u in
-                sym (slab-place i j _ (tableStep s c .state .held) (fits .0) (fits .1))
-                ∙ agree-after j (fits .0) u (fits .1)
-                ∙ slab-place i j _ (tableStep t c .state .held) (fits .0) (fits .1);
+            held = ap heldContents (leads s joined-s) ∙ tells .contents ∙ sym (ap heldContents (leads t joined-t));
           }
 
   -- channels that are the same tell the same and stay so
@@ -218,111 +215,46 @@ module _ (i : ℕ) (owner : Cid) (channel : ℕ) where
                 ∙ sym (leads (a .s) (a .t) c (a .joined-s) (a .joined-t) (a .same) (w .0) (w .1) lives (a .t) (a .joined-t));
           }
 
+-- ---- what counts of the own calls
+
+-- the reciprocal number plays no part in an own call that is no Join
+one-counted : (owner : Cid) (channel : ℕ) (h : Channel) (c : Call) → own owner channel c ≡ true → one owner h (counted c) ≡ one owner h c
+unfolding one own
+one-counted owner channel h (calls.message held deliver reply sender ours v d n) e =
+    by (names-is channel v d (and-eq-true-iff (isCid owner sender) (names channel v d) .0 e .1) .1)
+  where
+    by : ((isWrapper v ≡ true) × (wrapperOf d .channel ≡ channel)) ⊎ ((eqb v join ≡ true) × (joinOf d .channel ≡ channel))
+        → one owner h (counted (calls.message held deliver reply sender ours v d n)) ≡ one owner h (calls.message held deliver reply sender ours v d n)
+    by (inl w) = rw (w .0)
+    by (inr j) = rw (j .0)
+one-counted owner channel h (calls.elapsed cells ms) e = refl
+one-counted owner channel h (calls.leave reply sender named reason) e = refl
+
+alone-counted : (owner : Cid) (channel : ℕ) (h : Channel) (cs : List Call) → Each (λ c. Lawful c × (own owner channel c ≡ true)) cs
+    → alone (one owner) live h (map counted cs) ≡ alone (one owner) live h cs
+unfolding alone
+alone-counted owner channel h [] each = refl
+alone-counted owner channel h (c ∷ cs) (more w each) =
+    rw (one-counted owner channel h c (w .1), alone-counted owner channel (one owner h c .state) cs each)
+
 pub own-steps-only : (i : ℕ) (owner : Cid) (channel : ℕ) (s t : State) (cs ds : List Call) → Each Lawful cs → Each Lawful ds
     → Joined i owner channel s → Joined i owner channel t → SameChannel i s t
-    → ownOf (own owner channel) cs ≡ ownOf (own owner channel) ds
+    → map counted (ownOf (own owner channel) cs) ≡ map counted (ownOf (own owner channel) ds)
     → map seenOf (shown (own owner channel) (viewAt i) live (run tableStep s cs))
     ≡ map seenOf (shown (own owner channel) (viewAt i) live (run tableStep t ds))
 own-steps-only i owner channel s t cs ds each-s each-t joined-s joined-t same agree =
+    let own-s = own-each (own owner channel) cs each-s in
+    let own-t = own-each (own owner channel) ds each-t in
     ap (map seenOf) (own-run i owner channel s cs each-s joined-s)
-    ∙ alike-alone (likeness i owner channel) (channelAt i s) (channelAt i t) (ownOf (own owner channel) cs)
-    (own-each (own owner channel) cs each-s)
+    ∙ alike-alone (likeness i owner channel) (channelAt i s) (channelAt i t) (ownOf (own owner channel) cs) own-s
     (record { s = s; t = t; joined-s = joined-s; joined-t = joined-t; same = same; is-h = refl; is-k = refl })
-    ∙ ap (λ (es : List Call). map seenOf (alone (one owner) live (channelAt i t) es)) agree
+    ∙ ap (map seenOf)
+    (sym (alone-counted owner channel (channelAt i t) (ownOf (own owner channel) cs) own-s)
+    ∙ ap (alone (one owner) live (channelAt i t)) agree
+    ∙ alone-counted owner channel (channelAt i t) (ownOf (own owner channel) ds) own-t)
     ∙ sym (ap (map seenOf) (own-run i owner channel t ds each-t joined-t))
 
 -- ---- an example: a channel in record 2 holds a wrapper; in a second table stands another channel, and all other held octets differ
-
--- a member of channel 7 that holds the three octets of wrapper 12 and stands off, as 11 is missing
-abbrev pub holding : Cid → Record
-holding owner =
-    record {
-      used = true;
-      terms =
-          record {
-            owner = owner;
-            channel = 7;
-            mid = 3;
-            reciprocal = 9;
-            expiry = 5;
-            outbound = false;
-            holdoff = 0;
-            modulus = 1;
-            maxwait = 100;
-          };
-      total = total 10;
-      reliable = reliable 10;
-      known = reliable 12;
-      acked = reliable 10;
-      idle = 0;
-      gap = gap.Standoff 50 0;
-      places = record { used = true; total = total 12; reliable = reliable 12; len = 3 } ∷ replicate 3 noPlace;
-    }
-
-abbrev pub first : Cid
-first = record { high = 1; low = 2 }
-
-abbrev pub second : Cid
-second = record { high = 3; low = 4 }
-
-abbrev pub free : Record
-free = blank (replicate 4 noPlace)
-
--- record 5 is r, and record 2 has channel 7 of the first owner
-abbrev pub tableOf : Record → List Record
-tableOf r = free ∷ free ∷ holding first ∷ free ∷ free ∷ r ∷ free ∷ free ∷ []
-
--- the wrapper's octets, and the octet x all around
-unfoldable pub heldOf : ℕ → List ℕ
-heldOf x = splice (replicate heldSize x) (placeBegins 2 0) (1 ∷ 2 ∷ 3 ∷ [])
-
-abbrev pub stateOf : Record → ℕ → State
-stateOf r x = record { table = tableOf r; held = heldOf x }
-
-fresh : (n j : ℕ) → getD (replicate n noPlace) j noPlace ≡ noPlace
-fresh zero j = refl
-fresh (suc n) zero = refl
-fresh (suc n) (suc j) = fresh n j
-
-pub fresh-below : (n j : ℕ) → Both (getD (replicate n noPlace) j noPlace .total) (getD (replicate n noPlace) j noPlace .reliable)
-fresh-below n j = rw (fresh n j) (lit< tt, lit< tt)
-
-pub sound-free : Sound free
-sound-free = sound-by refl (lit< tt, lit< tt) (lit< tt) (lit< tt) (fresh-below 4)
-
-pub sound-holding : (owner : Cid) → Sound (holding owner)
-sound-holding owner = sound-by refl (lit< tt, lit< tt) (lit< tt) (lit< tt) held
-  where
-    held : (j : ℕ) → Both (getD (holding owner .places) j noPlace .total) (getD (holding owner .places) j noPlace .reliable)
-    held zero = (lit< tt, lit< tt)
-    held (suc j) = fresh-below 3 j
-
-pub held-size : (x : ℕ) → length (heldOf x) ≡ heldSize
-unfolding heldOf placeBegins
-held-size x =
-    let l : length (replicate heldSize x) ≡ heldSize = length-replicate heldSize x in
-    length-splice (replicate heldSize x) (placeBegins 2 0) (1 ∷ 2 ∷ 3 ∷ []) (omega arith) ∙ l
-
-pub joined-in : (r : Record) (x : ℕ) → Sound r → tableFormed (tableOf r) ≡ true → Joined 2 first 7 (stateOf r x)
-unfolding named same
-joined-in r x sound well =
-    record {
-      right =
-          record {
-            formed = well;
-            eight = refl;
-            sound =
-                each-at Sound (blank []) (tableOf r)
-                (sound-free, (sound-free, (sound-holding first, (sound-free, (sound-free, (sound, (sound-free, (sound-free, tt))))))));
-            size = held-size x;
-          };
-      has = refl;
-    }
-
-pub joined-one : Joined 2 first 7 (stateOf free 0)
-unfolding tableFormed
-    differs named wellFormed termsRight legalNames legalParameters minExpiry distance heldAllRight heldRight heldApart apartFrom apart gapRight closed maxRetries
-joined-one = joined-in free 0 sound-free refl
 
 joined-two : Joined 2 first 7 (stateOf (holding second) 255)
 unfolding tableFormed
@@ -339,59 +271,80 @@ written : (x : ℕ) → part (heldOf x) (placeBegins 2 0) 3 ≡ 1 ∷ 2 ∷ 3 �
 unfolding heldOf
 written x = part-splice (replicate heldSize x) (placeBegins 2 0) (1 ∷ 2 ∷ 3 ∷ []) (written-at x)
 
-same-two : SameChannel 2 (stateOf free 0) (stateOf (holding second) 255)
-same-two = record { at = refl; held = held }
-  where
-    held : (j : ℕ) → getD (holding first .places) j noPlace .used ≡ true
-        → part (heldOf 0) (placeBegins 2 j) (getD (holding first .places) j noPlace .len)
-        ≡ part (heldOf 255) (placeBegins 2 j) (getD (holding first .places) j noPlace .len)
-    held zero u = written 0 ∙ sym (written 255)
-    held (suc j) u = absurd (false≢true (sym (ap (λ (p : Place). p .used) (fresh 3 j)) ∙ u))
+in-slab : (x : ℕ) → part (slab 2 (heldOf x)) (placeBegins 0 0) 3 ≡ 1 ∷ 2 ∷ 3 ∷ []
+in-slab x = slab-place 2 0 3 (heldOf x) (lit< tt) (lit≤ tt) ∙ written x
 
--- in one run a stranger tries to leave the channel and a call is lent nothing; in the other only time passes
+same-two : SameChannel 2 (stateOf free 0) (stateOf (holding second) 255)
+unfolding channelAt heldContents
+same-two = record { at = refl; held = ap (λ (c : List ℕ). c ∷ [] ∷ [] ∷ [] ∷ []) (in-slab 0 ∙ sym (in-slab 255)) }
+
+-- in one run a stranger tries to leave the channel and a call is lent nothing; in the other there are no such calls, and the caller names another reciprocal
+-- number with the wrapper
 abbrev strange : List Call
-strange = calls.leave 64 (replicate 16 0) 7 1 ∷ calls.elapsed 512 20 ∷ calls.message 0 0 0 [] [] 0 [] 0 ∷ []
+strange =
+    calls.leave 64 (replicate 16 0) 7 1
+    ∷ calls.elapsed 512 20
+    ∷ calls.message 0 0 0 [] [] 0 [] 0
+    ∷ sample.wrapperWith 9 (sample.cid 1 2) 11 (4 ∷ 5 ∷ 6 ∷ [])
+    ∷ []
 
 abbrev plain : List Call
-plain = calls.elapsed 512 20 ∷ []
+plain = calls.elapsed 512 20 ∷ sample.wrapperWith 0 (sample.cid 1 2) 11 (4 ∷ 5 ∷ 6 ∷ []) ∷ []
 
 lawful-strange : Each Lawful strange
 unfolding Octets
-lawful-strange = more tt (more tt (more empty none))
+lawful-strange = more tt (more tt (more empty (more (sample.lawful (sample.wrapperData 11 (4 ∷ 5 ∷ 6 ∷ [])) refl) none)))
   where
     empty : Octets []
     empty i = lit< tt
 
 lawful-plain : Each Lawful plain
-lawful-plain = more tt none
+lawful-plain = more tt (more (sample.lawful (sample.wrapperData 11 (4 ∷ 5 ∷ 6 ∷ [])) refl) none)
 
--- the channel's own call is the same in both
-own-strange : ownOf (own first 7) strange ≡ plain
-unfolding ownOf own isCid cidAt number same elapsedSizes
-own-strange = refl
-
-own-plain : ownOf (own first 7) plain ≡ plain
-unfolding ownOf own elapsedSizes
-own-plain = refl
+-- what counts of the channel's own calls is the same in both
+own-same : map counted (ownOf (own first 7) strange) ≡ map counted (ownOf (own first 7) plain)
+unfolding ownOf own isCid cidAt number same elapsedSizes names readable lengthOf look wrapperOf
+own-same = refl
 
 -- so both show the same of it
 shows-same : map seenOf (shown (own first 7) (viewAt 2) live (run tableStep (stateOf free 0) strange))
     ≡ map seenOf (shown (own first 7) (viewAt 2) live (run tableStep (stateOf (holding second) 255) plain))
 shows-same =
     own-steps-only 2 first 7 (stateOf free 0) (stateOf (holding second) 255) strange plain lawful-strange lawful-plain
-    joined-one joined-two same-two (own-strange ∙ sym own-plain)
+    joined-one joined-two same-two own-same
 
--- and that is the standoff with 20 milliseconds spent
+-- after the time alone that is the standoff with 20 milliseconds spent, and the wrapper held as it was
+abbrev time : List Call
+time = calls.elapsed 512 20 ∷ []
+
 spends : (held : List ℕ)
-    → map seenOf (alone (one first) live (record { at = holding first; held = held }) plain)
-    ≡ record { at = withGap (withIdle (holding first) 20) (gap.Standoff 30 0); told = passed event.Nothing [] } ∷ []
-unfolding alone one elapsedOn elapsedOf phased inStandoff eventOf
+    → map seenOf (alone (one first) live (record { at = holding first; held = held }) time)
+    ≡ record {
+      at = withGap (withIdle (holding first) 20) (gap.Standoff 30 0);
+      contents = part held (placeBegins 0 0) 3 ∷ [] ∷ [] ∷ [] ∷ [];
+      told = passed event.Nothing [];
+    }
+    ∷ []
+unfolding alone one elapsedOn elapsedOf phased inStandoff eventOf heldContents
 spends held = refl
 
-shows-standoff : map seenOf (shown (own first 7) (viewAt 2) live (run tableStep (stateOf free 0) strange))
-    ≡ record { at = withGap (withIdle (holding first) 20) (gap.Standoff 30 0); told = passed event.Nothing [] } ∷ []
-unfolding channelAt
+shows-standoff : map seenOf (shown (own first 7) (viewAt 2) live (run tableStep (stateOf free 0) time))
+    ≡ record {
+      at = withGap (withIdle (holding first) 20) (gap.Standoff 30 0);
+      contents = (1 ∷ 2 ∷ 3 ∷ []) ∷ [] ∷ [] ∷ [] ∷ [];
+      told = passed event.Nothing [];
+    }
+    ∷ []
+unfolding channelAt ownOf own elapsedSizes
 shows-standoff =
-    ap (map seenOf) (own-run 2 first 7 (stateOf free 0) strange lawful-strange joined-one)
-    ∙ ap (λ (cs : List Call). map seenOf (alone (one first) live (channelAt 2 (stateOf free 0)) cs)) own-strange
+    ap (map seenOf) (own-run 2 first 7 (stateOf free 0) time (more tt none) joined-one)
     ∙ spends (slab 2 (heldOf 0))
+    ∙ ap
+    (λ (c : List ℕ).
+    record {
+      at = withGap (withIdle (holding first) 20) (gap.Standoff 30 0);
+      contents = c ∷ [] ∷ [] ∷ [] ∷ [];
+      told = passed event.Nothing [];
+    }
+    ∷ [])
+    (in-slab 0)

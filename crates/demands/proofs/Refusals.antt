@@ -33,95 +33,22 @@ use Rattle.gap.specs.Elapsed.{gives}
 use Rattle.gap.specs.declared.Event.the-variants as event
 use Rattle.sending.specs.Sent.{eventOf}
 use Rattle.carry.specs.Carried.{deliverFrom}
-use Rattle.table.specs.Table.{same, found, tableFormed, recordAt, blank}
+use Rattle.table.specs.Table.{same, found, tableFormed, recordAt}
 use Rattle.table.specs.declared.Found.{Found}
 use Rattle.table.specs.declared.Found.the-variants as search
 use Rattle.asking.specs.Asking.{arrivedOf, wrapperFor, wrapperAsks, joinAsks, messageAsks, readAsks, askedOf}
 use Rattle.asking.specs.declared.Asked.the-variants as asked
 use Rattle.member.specs.Sizes.{cellSize, messageSizes, elapsedSizes, leaveSizes}
-use Rattle.member.specs.Messages.{Outcome, isFound, refusedMessage, joinOutcome, planOutcome, steppedOutcome, wrapperOutcome, askedOutcome, messageOutcome, numberOf, messaged, deliverAfter, replyAfter}
-use Rattle.member.specs.Elapsing.{longest, Passing, refusedElapsed, passing, elapsedOutcome, passed, cellsFrom, cellsAfter}
-use Rattle.member.specs.Leaving.{Departing, refusedLeave, departing, leaveFor, leaveOutcome, leftReply}
-use Rattle.demands.proofs.Checks.{Check, firstOf, First, None, Numbered, empty, numbered, first-is-given, given-is-first, none-is-given, given-is-none}
-
--- ---- the conditions
-
-abbrev pub check : ℕ → Bool → Check
-check n b = record { number = n; holds = b }
-
--- 4: no base message that is built, or its data has a length or an address form that is not listed. An ACK is wrapped
-abbrev pub unreadable : ℕ → List ℕ → Bool
-unreadable v d = eqb v ack || not (readable v d)
-
-abbrev pub isWrapper : ℕ → Bool
-isWrapper v = eqb v reliableWrapper || eqb v unreliableWrapper
-
--- 5: no wrapper, and no Join that names our component
-abbrev pub notForUs : List ℕ → ℕ → List ℕ → Bool
-notForUs ours v d = not (isWrapper v) && not (eqb v join && same (joinOf d .cid) (cidAt ours 0))
-
--- where the table has the channel that a wrapper names
-abbrev pub ownPlace : List Record → List ℕ → List ℕ → Found
-ownPlace ts sender d = found 0 (cidAt sender 0) (wrapperOf d .channel) ts
-
--- 6: a wrapper whose owner and channel no record has
-abbrev pub noRecord : List Record → List ℕ → ℕ → List ℕ → Bool
-noRecord ts sender v d = isWrapper v && not (isFound (ownPlace ts sender d))
-
--- 7: a wrapper with contents over 1,454
-abbrev pub tooLong : ℕ → List ℕ → Bool
-tooLong v d = isWrapper v && ltb mostContents (length (contents d))
-
-abbrev pub recordOf : List Record → Found → Record
-recordOf ts (search.At i) = recordAt ts i
-recordOf ts search.Nowhere = blank []
-
--- step 1 of the wrapper on its own record
-abbrev pub judgement : List Record → List ℕ → ℕ → List ℕ → Judged
-judgement ts sender v d =
-    judged (recordOf ts (ownPlace ts sender d)) (eqb v reliableWrapper) (wrapperOf d .total) (wrapperOf d .reliable)
-
-abbrev pub isOld : Judged → Bool
-isOld judging.Old = true
-isOld judging.Inconsistent = false
-isOld judging.Fresh = false
-
-abbrev pub isInconsistent : Judged → Bool
-isInconsistent judging.Old = false
-isInconsistent judging.Inconsistent = true
-isInconsistent judging.Fresh = false
-
--- the order of a message call
-abbrev pub messageChecks : List Record → List ℕ → ℕ → ℕ → List ℕ → List ℕ → ℕ → List ℕ → List Check
-messageChecks ts held deliver reply sender ours v d =
-    check 1 (not (messageSizes (length ts) (length held) deliver reply (length sender) (length ours)))
-    ∷ check 2 (not (tableFormed ts))
-    ∷ check 4 (unreadable v d)
-    ∷ check 5 (notForUs ours v d)
-    ∷ check 6 (noRecord ts sender v d)
-    ∷ check 7 (tooLong v d)
-    ∷ check 8 (isWrapper v && isOld (judgement ts sender v d))
-    ∷ check 9 (isWrapper v && isInconsistent (judgement ts sender v d))
-    ∷ []
-
--- that of an elapsed call
-abbrev pub elapsedChecks : List Record → ℕ → ℕ → List Check
-elapsedChecks ts cells ms =
-    check 1 (not (elapsedSizes (length ts) cells)) ∷ check 2 (not (tableFormed ts)) ∷ check 3 (ltb longest ms) ∷ []
-
--- and of a leave call
-abbrev pub leaveChecks : List Record → ℕ → List ℕ → ℕ → ℕ → List Check
-leaveChecks ts reply owner channel reason =
-    check 1 (not (leaveSizes (length ts) reply (length owner)))
-    ∷ check 2 (not (tableFormed ts))
-    ∷ check 6 (not (isFound (found 0 (cidAt owner 0) channel ts)))
-    ∷ check 10 (not (leavingReason reason))
-    ∷ []
+use Rattle.member.specs.Messages.{Outcome, isFound, refusedMessage, joinOutcome, planOutcome, steppedOutcome, wrapperOutcome, askedOutcome, messageOutcome, numberOf, messaged, messageEnd}
+use Rattle.member.specs.Elapsing.{longest, Passing, refusedElapsed, passing, elapsedOutcome, cellOf, cellsFrom, elapsedEnd}
+use Rattle.member.specs.Leaving.{Departing, refusedLeave, departing, leaveFor, leaveOutcome, left, leaveEnd}
+use Rattle.demands.specs.Refusals.{firstOf, First, None, check, unreadable, isWrapper, tooLong, recordOf, isOld, isInconsistent, messageChecks, elapsedChecks, leaveChecks, messageStands, elapsedStands, leaveStands}
+use Rattle.demands.proofs.Lemmas.Checks.{Numbered, empty, numbered, first-is-given, given-is-first, none-is-given, given-is-none}
 
 -- ---- elapsed and leave calls
 
 -- refused by a number with everything as before, or accepted
-pub data Elapsed (ts : List Record) : ℕ → Passing → Type 0 where
+data Elapsed (ts : List Record) : ℕ → Passing → Type 0 where
   refused : (n : ℕ) → Elapsed ts n (refusedElapsed ts n)
   accepted : (p : Passing) → p .number ≡ 0 → Elapsed ts 0 p
 
@@ -156,18 +83,26 @@ silent [] i room = refl
 silent (r ∷ ts) i room =
     ap (λ after. cellsFrom (i + 1) (map (λ r. gives r event.Nothing) ts) after) (sym (splice-nothing room (i * cellSize))) ∙ silent ts (i + 1) room
 
+quiet-cells : (ts : List Record) → map cellOf (map (λ r. gives r event.Nothing) ts) ≡ map (λ r. record { event = event.Nothing; len = 0 }) ts
+unfolding eventOf
+quiet-cells [] = refl
+quiet-cells (r ∷ ts) = ap (λ cs. record { event = event.Nothing; len = 0 } ∷ cs) (quiet-cells ts)
+
 -- a refused elapsed call leaves the table and every octet of the cells, and answers its number alone: no record has sent anything
-pub elapsed-leaves : (ts : List Record) (cells ms : ℕ) (room : List ℕ) → (firstOf (elapsedChecks ts cells ms) ≡ 0 → ⊥)
-    → (passed (elapsedOutcome ts cells ms) .table ≡ ts)
-    × (cellsAfter (elapsedOutcome ts cells ms) room ≡ room)
-    × (elapsedOutcome ts cells ms ≡ refusedElapsed ts (firstOf (elapsedChecks ts cells ms)))
-elapsed-leaves ts cells ms room z = by (elapsed-told ts cells ms) z
+pub elapsed-leaves : (ts : List Record) (cells : List ℕ) (ms : ℕ) → (firstOf (elapsedChecks ts (length cells) ms) ≡ 0 → ⊥)
+    → elapsedEnd (elapsedOutcome ts (length cells) ms) cells ≡ elapsedStands ts cells (firstOf (elapsedChecks ts (length cells) ms))
+elapsed-leaves ts cells ms z = by (elapsed-told ts (length cells) ms) z
   where
-    by : {k : ℕ} {p : Passing} → Elapsed ts k p → (k ≡ 0 → ⊥) → (passed p .table ≡ ts) × (cellsAfter p room ≡ room) × (p ≡ refusedElapsed ts k)
-    by (refused n) z = (standing ts, silent ts 0 room, refl)
+    by : {k : ℕ} {p : Passing} → Elapsed ts k p → (k ≡ 0 → ⊥) → elapsedEnd p cells ≡ elapsedStands ts cells k
+    by (refused n) z =
+        λ i.
+        record {
+          answer = record { table = standing ts i; number = n; cells = quiet-cells ts i };
+          cells = silent ts 0 cells i;
+        }
     by (accepted p e) z = absurd (z refl)
 
-pub data Left (ts : List Record) : ℕ → Departing → Type 0 where
+data Left (ts : List Record) : ℕ → Departing → Type 0 where
   refused : (n : ℕ) → Left ts n (refusedLeave ts n)
   accepted : (p : Departing) → p .number ≡ 0 → Left ts 0 p
 
@@ -196,21 +131,20 @@ leave-number ts reply owner channel reason = by (leave-told ts reply owner chann
     by (accepted p e) = e
 
 -- a refused leave call leaves the table and every octet of the reply room, and answers its number alone
-pub leave-leaves : (ts : List Record) (reply : ℕ) (owner : List ℕ) (channel reason : ℕ) (room : List ℕ)
-    → (firstOf (leaveChecks ts reply owner channel reason) ≡ 0 → ⊥)
-    → (leaveOutcome ts reply owner channel reason .table ≡ ts)
-    × (leftReply (leaveOutcome ts reply owner channel reason) room ≡ room)
-    × (leaveOutcome ts reply owner channel reason ≡ refusedLeave ts (firstOf (leaveChecks ts reply owner channel reason)))
-leave-leaves ts reply owner channel reason room z = by (leave-told ts reply owner channel reason) z
+pub leave-leaves : (ts : List Record) (reply owner : List ℕ) (channel reason : ℕ)
+    → (firstOf (leaveChecks ts (length reply) owner channel reason) ≡ 0 → ⊥)
+    → leaveEnd (leaveOutcome ts (length reply) owner channel reason) reply
+    ≡ leaveStands ts reply (firstOf (leaveChecks ts (length reply) owner channel reason))
+leave-leaves ts reply owner channel reason z = by (leave-told ts (length reply) owner channel reason) z
   where
-    by : {k : ℕ} {p : Departing} → Left ts k p → (k ≡ 0 → ⊥) → (p .table ≡ ts) × (leftReply p room ≡ room) × (p ≡ refusedLeave ts k)
-    by (refused n) z = (refl, sym (splice-nothing room 0), refl)
+    by : {k : ℕ} {p : Departing} → Left ts k p → (k ≡ 0 → ⊥) → leaveEnd p reply ≡ leaveStands ts reply k
+    by (refused n) z = λ i. record { answer = left (refusedLeave ts n); reply = sym (splice-nothing reply 0) i }
     by (accepted p e) z = absurd (z refl)
 
 -- ---- a message call
 
 -- a call that is refused by a number, with everything as before, or one that is accepted
-pub data Told (ts : List Record) (held : List ℕ) : ℕ → Outcome → Type 0 where
+data Told (ts : List Record) (held : List ℕ) : ℕ → Outcome → Type 0 where
   refused : (n : ℕ) → Told ts held n (refusedMessage ts held n)
   accepted : (o : Outcome) → numberOf (o .given) ≡ 0 → Told ts held 0 o
 
@@ -327,7 +261,7 @@ module _ (ts : List Record) (held : List ℕ) (s : Cid) (n : ℕ) (c : List ℕ)
       split false e =
           by e (readable v d) (eqb v reliableWrapper) (eqb v unreliableWrapper) (eqb v join) (same (joinOf d .cid) o) refl
 
-pub message-told : (ts : List Record) (held : List ℕ) (deliver reply : ℕ) (sender ours : List ℕ) (v : ℕ) (d : List ℕ) (n : ℕ)
+message-told : (ts : List Record) (held : List ℕ) (deliver reply : ℕ) (sender ours : List ℕ) (v : ℕ) (d : List ℕ) (n : ℕ)
     → Told ts held (firstOf (messageChecks ts held deliver reply sender ours v d)) (messageOutcome ts held deliver reply sender ours v d n)
 unfolding messageOutcome firstOf
 message-told ts held deliver reply sender ours v d n =
@@ -349,43 +283,39 @@ pub message-number : (ts : List Record) (held : List ℕ) (deliver reply : ℕ) 
     → numberOf (messageOutcome ts held deliver reply sender ours v d n .given) ≡ firstOf (messageChecks ts held deliver reply sender ours v d)
 message-number ts held deliver reply sender ours v d n = told-number ts held _ _ (message-told ts held deliver reply sender ours v d n)
 
--- everything as before: the table, the held octets, and every octet of the two rooms; and the answer is the number alone
-pub record Stands (ts : List Record) (h dr rr : List ℕ) (number : ℕ) (out : Outcome) : Type 0 where
-  pub table : out .table ≡ ts
-  pub held : out .held ≡ h
-  pub deliver : deliverAfter out dr ≡ dr
-  pub reply : replyAfter out rr ≡ rr
-  pub answer : messaged out ≡ messaged (refusedMessage ts [] number)
-
--- a refused message call leaves everything
+-- a refused message call leaves the table, the held octets and every octet of the two rooms, and answers its number alone
 pub message-leaves : (ts : List Record) (held deliver reply sender ours : List ℕ) (v : ℕ) (d : List ℕ) (n : ℕ)
     → (firstOf (messageChecks ts held (length deliver) (length reply) sender ours v d) ≡ 0 → ⊥)
-    → Stands ts held deliver reply (firstOf (messageChecks ts held (length deliver) (length reply) sender ours v d))
-    (messageOutcome ts held (length deliver) (length reply) sender ours v d n)
+    → messageEnd (messageOutcome ts held (length deliver) (length reply) sender ours v d n) deliver reply
+    ≡ messageStands ts held deliver reply (firstOf (messageChecks ts held (length deliver) (length reply) sender ours v d))
 unfolding deliverFrom
 message-leaves ts held deliver reply sender ours v d n z = by (message-told ts held (length deliver) (length reply) sender ours v d n) z
   where
-    by : {k : ℕ} {out : Outcome} → Told ts held k out → (k ≡ 0 → ⊥) → Stands ts held deliver reply k out
-    by (refused k) z = record { table = refl; held = refl; deliver = refl; reply = sym (splice-nothing reply 0); answer = refl }
+    by : {k : ℕ} {out : Outcome} → Told ts held k out → (k ≡ 0 → ⊥) → messageEnd out deliver reply ≡ messageStands ts held deliver reply k
+    by (refused k) z =
+        λ i.
+        record {
+          answer = messaged (refusedMessage ts held k);
+          held = held;
+          deliver = deliver;
+          reply = sym (splice-nothing reply 0) i;
+        }
     by (accepted p e) z = absurd (z refl)
 
 -- ---- exactly if, both ways: number n is given exactly if its condition holds and no earlier one, and a call is accepted exactly if none holds
 
 module _ (ts : List Record) (held : List ℕ) (deliver reply : ℕ) (sender ours : List ℕ) (v : ℕ) (d : List ℕ) (n : ℕ) where
-  abbrev checks : List Check
-  checks = messageChecks ts held deliver reply sender ours v d
-
   pub message-refused : (k : ℕ) → (k ≡ 0 → ⊥)
-      → (numberOf (messageOutcome ts held deliver reply sender ours v d n .given) ≡ k) ↔ First k checks
+      → (numberOf (messageOutcome ts held deliver reply sender ours v d n .given) ≡ k) ↔ First k (messageChecks ts held deliver reply sender ours v d)
   message-refused k z = (
-    λ e. given-is-first k checks z (sym (message-number ts held deliver reply sender ours v d n) ∙ e),
-    λ f. message-number ts held deliver reply sender ours v d n ∙ first-is-given k checks f,
+    λ e. given-is-first k _ z (sym (message-number ts held deliver reply sender ours v d n) ∙ e),
+    λ f. message-number ts held deliver reply sender ours v d n ∙ first-is-given k _ f,
   )
 
-  pub message-accepted : (numberOf (messageOutcome ts held deliver reply sender ours v d n .given) ≡ 0) ↔ None checks
+  pub message-accepted : (numberOf (messageOutcome ts held deliver reply sender ours v d n .given) ≡ 0) ↔ None (messageChecks ts held deliver reply sender ours v d)
   message-accepted = (
-    λ e. given-is-none checks all (sym (message-number ts held deliver reply sender ours v d n) ∙ e),
-    λ f. message-number ts held deliver reply sender ours v d n ∙ none-is-given checks f,
+    λ e. given-is-none _ all (sym (message-number ts held deliver reply sender ours v d n) ∙ e),
+    λ f. message-number ts held deliver reply sender ours v d n ∙ none-is-given _ f,
   )
     where
       all : Numbered (messageChecks ts held deliver reply sender ours v d)

@@ -4,7 +4,7 @@
 -- elapsed time, a leave call and the answer to a Join send no others if the record's counters have 32 bits (`Sound`) and its names, or the Join's, have
 -- the widths of their fields; so for these it is said without that (`step-reply-read`, `elapsed-read`, `leave-read`, `decided-read`). The example at
 -- the end meets all that is assumed.
-use Prim.Native.Nat.{ℕ, suc, _<_, _≤_}
+use Prim.Native.Nat.{ℕ, _<_, _≤_}
 use mathlib.Core.Bool.{Bool, true, false, false≢true, not, _&&_}
 use mathlib.Core.List.{List, [], _∷_, _++_, append-nil}
 use mathlib.Core.Path.{_≡_, refl, sym, ap, ap₂, subst, _∙_}
@@ -13,15 +13,12 @@ use lib.Dec.{ltb, eqb, lit<, lit≤}
 use lib.ListN.{length, getD, length-append}
 use lib.Seq.{take-nil}
 use borrow.Author.Tests.{ltb-true, ltb-false, ne-eqb}
-use Rattle.octets.specs.Octets.{number, octets, part}
-use Rattle.octets.specs.Octets.{Octets as Bytes}
+use Rattle.octets.specs.Octets.{number, octets, Octets as Bytes}
 use Rattle.counter.specs.Distance.{turn}
 use Rattle.counter.specs.declared.Reliable.{Reliable}
 use Rattle.counter.proofs.Distances.{next-below, before-below}
-use Rattle.block.specs.Block.{most, readBlock}
+use Rattle.block.specs.Block.{most}
 use Rattle.block.specs.Written.{Piece, together}
-use Rattle.block.specs.declared.Found.{Found}
-use Rattle.block.specs.declared.BlockRead.the-variants as block
 use Rattle.block.proofs.Together.{Short, AllShort, in-order, no-more}
 use Rattle.message.specs.Layouts.{reliable, cidAt, parametersAt, addressOf as addressOfJoin, joinOf}
 use Rattle.message.specs.Reading.{readMessage}
@@ -31,7 +28,6 @@ use Rattle.message.specs.declared.Cid.{Cid}
 use Rattle.message.specs.declared.Join.{Join}
 use Rattle.message.specs.declared.Message.{Message}
 use Rattle.message.specs.declared.Message.the-variants as message
-use Rattle.message.specs.declared.MessageRead.the-variants.{Read}
 use Rattle.message.specs.declared.Parameters.{Parameters}
 use Rattle.record.specs.Legal.{legalNames, legalParameters}
 use Rattle.record.specs.Profile.{minExpiry}
@@ -40,7 +36,6 @@ use Rattle.record.specs.WellFormed.{closed}
 use Rattle.record.specs.declared.Gap.{Gap}
 use Rattle.record.specs.declared.Record.{Record}
 use Rattle.record.specs.declared.Terms.{Terms}
-use Rattle.record.proofs.Choices.{either}
 use Rattle.gap.specs.Elapsed.{inStandoff, phased, elapsedOf}
 use Rattle.gap.specs.Range.{nearer, nearest, endBy, nakFirst, nakLast}
 use Rattle.gap.specs.declared.Elapsed.{Elapsed}
@@ -67,29 +62,19 @@ use Rattle.joining.specs.declared.Decision.the-variants as decision
 use Rattle.joining.specs.declared.Existing.{Existing}
 use Rattle.joining.specs.declared.Existing.the-variants as existing
 use Rattle.writing.specs.Fields.{fieldsOf}
-use Rattle.writing.specs.Fits.{Octets, FitCid, FitMembership, Fits}
+use Rattle.writing.specs.Fits.{Octets, FitMembership, Fits}
 use Rattle.writing.specs.Writing.{vectorOf, addressOf, hasForm, contentsOf, pduOf}
 use Rattle.sending.specs.Sent.{sentOf, replyOf, eventOf, welcomeOf, joinReplyOf}
-use Rattle.demands.specs.Calls.{Sound}
-use Rattle.demands.proofs.Back.{short, message-back}
-use Rattle.demands.proofs.Sounds.{Both, taken-sound}
-use Rattle.demands.proofs.Brought.{number-short}
-use Rattle.demands.proofs.Kept.{terms-kept}
-use Rattle.demands.proofs.OwnStepsOnly as example
-use Rattle.demands.proofs.Sample as sample
+use Rattle.demands.specs.Calls.{Sound, Both}
+use Rattle.demands.specs.ReadBack.{ReadAt, ReadFrom, replyMeans, eventMeans, joinMeans, FitTerms, FitReply, FitEvent, FitDecision, FitAsked, FitExisting}
+use Rattle.demands.proofs.Lemmas.Back.{short, message-back}
+use Rattle.record.proofs.Choices.{either}
+use Rattle.demands.proofs.Lemmas.Sounds.{taken-sound}
+use Rattle.demands.proofs.Lemmas.Brought.{number-short}
+use Rattle.demands.proofs.Lemmas.Kept.{terms-kept}
+use Rattle.demands.proofs.Lemmas.Sample as sample
 
 -- ---- what is read from octets
-
--- the message at position k of the block s is m
-pub record ReadAt (s : List ℕ) (k : ℕ) (m : Message) : Type 0 where
-  pub found : Found
-  pub there : readBlock s k ≡ block.Message found
-  pub message : readMessage (getD s (found .vector) 0) (part s (found .place) (found .len)) ≡ Read m
-
--- from position k on the block s has these messages and no others
-abbrev pub ReadFrom : List ℕ → ℕ → List Message → Type 0
-ReadFrom s k [] = readBlock s k ≡ block.Fewer
-ReadFrom s k (m ∷ ms) = ReadAt s k m × ReadFrom s (suc k) ms
 
 -- ---- messages written one behind the other
 
@@ -142,51 +127,7 @@ two-read m n fits form fits-n form-n =
 
 -- ---- what a reply, an event and the answer to a Join mean
 
-abbrev pub replyMeans : Terms → Reply → List Message
-replyMeans t reply.Nothing = []
-replyMeans t (reply.Ack r) = message.Ack r ∷ []
-replyMeans t (reply.Leaving reason r) = departure t r reason ∷ []
-
-abbrev pub eventMeans : Terms → Event → List Message
-eventMeans t event.Nothing = []
-eventMeans t (event.Nak r first last outbound) = missing t r first last ∷ []
-eventMeans t (event.Leaving reason r) = departure t r reason ∷ []
-
-abbrev pub joinMeans : Cid → Join → ℕ → Decision → List Message
-joinMeans owner j n (decision.Refuse reason) = joinRefuseOf owner j reason ∷ []
-joinMeans owner j n (decision.Again r reciprocal) = acceptance owner j r reciprocal ∷ []
-joinMeans owner j n (decision.Make p) = acceptance owner j (j .reliable) n ∷ message.Ack (j .reliable) ∷ []
-
 -- ---- numbers of the width of their fields
-
--- the names and the reciprocal channel of a member
-pub record FitTerms (t : Terms) : Type 0 where
-  pub owner : FitCid (t .owner)
-  pub channel : Octets 2 (t .channel)
-  pub mid : Octets 2 (t .mid)
-  pub reciprocal : Octets 2 (t .reciprocal)
-
-abbrev pub FitReply : Reply → Type 0
-FitReply reply.Nothing = Unit {0}
-FitReply (reply.Ack r) = Octets 4 (r .0)
-FitReply (reply.Leaving reason r) = Octets 1 reason × Octets 4 (r .0)
-
-abbrev pub FitEvent : Event → Type 0
-FitEvent event.Nothing = Unit {0}
-FitEvent (event.Nak r first last outbound) = Octets 4 (r .0) × Octets 4 (first .0) × Octets 4 (last .0)
-FitEvent (event.Leaving reason r) = Octets 1 reason × Octets 4 (r .0)
-
-abbrev pub FitDecision : Decision → Type 0
-FitDecision (decision.Refuse reason) = Octets 1 reason
-FitDecision (decision.Again r reciprocal) = Octets 4 (r .0) × Octets 2 reciprocal
-FitDecision (decision.Make p) = Unit {0}
-
--- who asks to join, by which channel and MID, and at which number
-pub record FitAsked (sender : Cid) (j : Join) : Type 0 where
-  pub owner : FitCid sender
-  pub channel : Octets 2 (j .channel)
-  pub mid : Octets 2 (j .mid)
-  pub reliable : Octets 4 (j .reliable .0)
 
 member-fits : (t : Terms) (r : Reliable) → FitTerms t → Octets 4 (r .0) → FitMembership (memberAt t r)
 unfolding memberAt
@@ -255,7 +196,7 @@ join-reply-read owner j n (decision.Make p) f o g = welcome-read owner j n f o
 -- ---- what the steps send has the width of its fields
 
 -- an ACK and a Leaving of a step carry R as the step leaves it
-abbrev pub Says : Record → Reply → Type 0
+abbrev Says : Record → Reply → Type 0
 Says r reply.Nothing = Unit {0}
 Says r (reply.Ack n) = n ≡ r .reliable
 Says r (reply.Leaving reason n) = (reason ≡ lostSequence) × (n ≡ r .reliable)
@@ -277,7 +218,7 @@ settled-says r w =
     (refl, sym (gapped-reliable r (w .oldest)))
     (acknowledged-says (gapped r (w .oldest) .after) w)
 
-pub step-says : (r : Record) (w : Arrived) → Says (taken r w .after) (taken r w .reply)
+step-says : (r : Record) (w : Arrived) → Says (taken r w .after) (taken r w .reply)
 unfolding taken
 step-says r w = settled-says (released (placed (heard r (w .reliable)) w .after) .after) w
 
@@ -286,7 +227,7 @@ says-fits r reply.Nothing h q = tt
 says-fits r (reply.Ack n) h q = rw q h
 says-fits r (reply.Leaving reason n) h q = (rw (q .0) (lit< tt), rw (q .1) h)
 
-pub step-fits : (r : Record) (w : Arrived) → Sound r → Both (w .total) (w .reliable) → FitReply (taken r w .reply)
+step-fits : (r : Record) (w : Arrived) → Sound r → Both (w .total) (w .reliable) → FitReply (taken r w .reply)
 step-fits r w s b = says-fits (taken r w .after) (taken r w .reply) (taken-sound r w s b .reliable) (step-says r w)
 
 -- the octets of a wrapper's reply are read as what the step replies, whatever the wrapper
@@ -300,7 +241,7 @@ last-fits : (n : Nearest) (k : Reliable) → k .0 < turn → endBy n k .0 < turn
 last-fits (near.Held n) k h = before-below 1 (n .0)
 last-fits near.Nothing k h = h
 
-pub elapsed-fits : (r : Record) (ms : ℕ) → Sound r → FitEvent (elapsedOf r ms .event)
+elapsed-fits : (r : Record) (ms : ℕ) → Sound r → FitEvent (elapsedOf r ms .event)
 unfolding nakFirst nakLast
 elapsed-fits r ms s = by (moves r ms)
   where
@@ -342,11 +283,7 @@ pub leave-read : (r : Record) (reason : ℕ) → Sound r → FitTerms (r .terms)
     → ReadFrom (sentOf (departure (r .terms) (r .reliable) reason)) 0 (departure (r .terms) (r .reliable) reason ∷ [])
 leave-read r reason s f e = departure-read (r .terms) (r .reliable) reason f (s .reliable) (leaving-octet reason e)
 
-abbrev pub FitExisting : Existing → Type 0
-FitExisting (existing.Known mid r reciprocal) = Octets 4 (r .0) × Octets 2 reciprocal
-FitExisting existing.Unknown = Unit {0}
-
-pub decided-fits : (j : Join) (e : Existing) (n : ℕ) (free : Bool) → FitExisting e → FitDecision (decided j e n free)
+decided-fits : (j : Join) (e : Existing) (n : ℕ) (free : Bool) → FitExisting e → FitDecision (decided j e n free)
 unfolding decided decideNew
 decided-fits j e n free f = either FitDecision (legal j) _ _ (by (j .address) e f) (lit< tt)
   where
@@ -380,17 +317,17 @@ existing-fits r s f = (s .reliable, f .reciprocal)
 
 -- ---- an example: channel 7 of the first owner asks for 11, and the second owner's Join to channel 7 is answered
 
-pub terms-fit : FitTerms (example.holding example.first .terms)
+pub terms-fit : FitTerms (sample.holding sample.first .terms)
 terms-fit = record { owner = record { high = lit< tt; low = lit< tt }; channel = lit< tt; mid = lit< tt; reciprocal = lit< tt }
 
-nak-back : ReadFrom (eventOf (elapsedOf (example.holding example.first) 50 .after .terms) (elapsedOf (example.holding example.first) 50 .event)) 0
-    (missing (example.holding example.first .terms) (reliable 10) (reliable 11) (reliable 11) ∷ [])
+nak-back : ReadFrom (eventOf (elapsedOf (sample.holding sample.first) 50 .after .terms) (elapsedOf (sample.holding sample.first) 50 .event)) 0
+    (missing (sample.holding sample.first .terms) (reliable 10) (reliable 11) (reliable 11) ∷ [])
 unfolding elapsedOf phased inStandoff nakFirst nakLast nearest nearer
-nak-back = elapsed-read (example.holding example.first) 50 (example.sound-holding example.first) terms-fit
+nak-back = elapsed-read (sample.holding sample.first) 50 (sample.sound-holding sample.first) terms-fit
 
-welcome-back : ReadFrom (joinReplyOf example.second (joinOf sample.joinData) 9 (decided (joinOf sample.joinData) existing.Unknown 9 true)) 0
-    (acceptance example.second (joinOf sample.joinData) (reliable 10) 9 ∷ message.Ack (reliable 10) ∷ [])
+welcome-back : ReadFrom (joinReplyOf sample.second (joinOf sample.joinData) 9 (decided (joinOf sample.joinData) existing.Unknown 9 true)) 0
+    (acceptance sample.second (joinOf sample.joinData) (reliable 10) 9 ∷ message.Ack (reliable 10) ∷ [])
 unfolding decided decideNew legal legalBlock legalNames legalParameters minExpiry cidAt joinOf addressOfJoin parametersAt number
 welcome-back =
-    decided-read example.second (joinOf sample.joinData) existing.Unknown 9 true
+    decided-read sample.second (joinOf sample.joinData) existing.Unknown 9 true
     (join-fits (sample.cid 3 4) sample.joinData (sample.lawful (sample.cid 3 4) refl) (sample.lawful sample.joinData refl)) (lit< tt) tt

@@ -8,7 +8,7 @@ use mathlib.Core.Logic.{inl}
 use mathlib.Core.Path.{_≡_, refl, sym, ap, subst, _∙_}
 use native.Mathlib.Nat.{zero-add, add-zero}
 use native.Mathlib.Omega.{arith}
-use lib.ListN.{length, getD, set, length-set}
+use lib.ListN.{length, getD, length-set}
 use lib.Seq.{getD-set-same, getD-set-other}
 use Rattle.octets.specs.Octets.{part, splice}
 use Rattle.octets.proofs.Writes.{length-splice, part-splice}
@@ -33,12 +33,12 @@ use Rattle.member.specs.Messages.{Outcome, planOutcome, messageOutcome, message
 use Rattle.member.specs.Elapsing.{Passing, sentBy, cellsFrom, cellsAfter}
 use Rattle.member.specs.Leaving.{Departing, leftReply}
 use Rattle.demands.specs.Calls.{State, Right}
-use Rattle.demands.proofs.Outcomes.{Carries, message-cases}
+use Rattle.demands.proofs.Lemmas.Outcomes.{Carries, message-cases}
 
 -- deliveries that have cells: five at most, each as long as it says
-pub record Stand (ds : List Delivered) : Type 0 where
-  pub whole : Each Whole ds
-  pub few : length ds ≤ 5
+record Stand (ds : List Delivered) : Type 0 where
+  whole : Each Whole ds
+  few : length ds ≤ 5
 
 module _ (s : State) (right : Right s) where
   plan-stands : (i : ℕ) (w : Arrived) (c : List ℕ) → Carries s i w c → Stand (planOutcome (s .table) (s .held) i w c (taken (recordAt (s .table) i) w) .delivered)
@@ -52,7 +52,7 @@ module _ (s : State) (right : Right s) where
         few = delivered-few (s .held) i w c (taken (recordAt (s .table) i) w) fits;
       }
 
-  pub message-stands : (deliver reply : ℕ) (sender ours : List ℕ) (v : ℕ) (d : List ℕ) (n : ℕ)
+  message-stands : (deliver reply : ℕ) (sender ours : List ℕ) (v : ℕ) (d : List ℕ) (n : ℕ)
       → Stand (messageOutcome (s .table) (s .held) deliver reply sender ours v d n .delivered)
   message-stands =
       message-cases s right (λ out. Stand (out .delivered)) (λ number. nothing) (λ owner j n known free d. nothing) plan-stands

@@ -7,57 +7,33 @@ use mathlib.Core.Bool.{true}
 use mathlib.Core.List.{List, [], _∷_, _++_}
 use Prim.Native.Nat.{ℕ, zero, suc, _-_, _^_, _/_, _≤_}
 use native.Mathlib.Nat.{mod-lt}
-use lib.ListN.{length, getD, take, drop}
+use lib.ListN.{length, getD, drop}
 use lib.Seq.{take-length}
 use lib.Dec.{lit<, lit≤}
 use Rattle.octets.specs.Octets.{number, octets}
 use Rattle.octets.specs.Octets.{Octets}
 use Rattle.block.specs.Pdu.{headSize, fields, sizeAt, lacksFlag, leftOver, malformed, foundAt, pduAt}
 use Rattle.block.specs.Block.{parseFrom, parse, messageAt, asked, readBlock}
-use Rattle.block.specs.Written.{pdu}
 use Rattle.block.specs.declared.BlockRead.the-variants as block
 use Rattle.message.specs.Lengths.{look, lengthOf}
 use Rattle.message.specs.Reading.{readable, fixedOf, messageOf, readMessage}
-use Rattle.message.specs.declared.Wrapper.{Wrapper}
 use Rattle.message.specs.declared.Message.{Message}
 use Rattle.message.specs.declared.Message.the-variants as message
 use Rattle.message.specs.declared.MessageRead.the-variants.{Read}
 use Rattle.writing.specs.Fields.{wrapperOctets, fieldsOf}
 use Rattle.writing.specs.Fits.{Fits}
-use Rattle.writing.specs.Writing.{most, vectorOf, addressOf, hasForm, carriedOf, contentsOf, pduOf, wrote, roomAfter}
-use Rattle.writing.specs.declared.Wrote.the-variants as answer
-use Rattle.demands.proofs.Back.{message-back, length-behind-head, alone, not-refused, in-room}
-use Rattle.demands.proofs.Again.{again}
+use Rattle.writing.specs.Writing.{most, vectorOf, addressOf, hasForm, carriedOf, contentsOf, pduOf, wrote}
+use Rattle.demands.specs.ReadBack.{IsWrapper, ReadBack, WrittenAgain, reliable, unreliable}
+use Rattle.demands.proofs.Lemmas.Back.{message-back, length-behind-head, alone, not-refused, in-room}
+use Rattle.demands.proofs.Lemmas.Again.{again}
 
 -- ---- what is written is read back
-
--- the octets that writing m with the contents c leaves at the front of the room r
-abbrev pub written : Message → List ℕ → List ℕ → List ℕ
-written m c r = take (length (pduOf m c)) (roomAfter m c r)
-
--- the two messages that carry contents
-pub data IsWrapper : Message → Type 0 where
-  reliable : (w : Wrapper) → IsWrapper (message.ReliableWrapper w)
-  unreliable : (w : Wrapper) → IsWrapper (message.UnreliableWrapper w)
 
 -- in their data the contents stand behind their own 20 octets
 contents-back : {m : Message} (c : List ℕ) → IsWrapper m → drop 20 (fieldsOf m ++ contentsOf m c) ≡ c
 unfolding fieldsOf carriedOf wrapperOctets octets
 contents-back c (reliable w) = take-length c
 contents-back c (unreliable w) = take-length c
-
--- m with the contents c, written into the room r, is read back
-pub record ReadBack (m : Message) (c r : List ℕ) : Type 0 where
-  -- writing answers how many octets it wrote
-  pub wrote : wrote m c r ≡ answer.Octets (length (pduOf m c))
-  -- read as a block, they have a message: its vector is the octet at 2, and its data are all octets from 3 on
-  pub first : readBlock (written m c r) 0 ≡ block.Message (record { vector = 2; place = 3; len = length (pduOf m c) - 3 })
-  -- and they have no other
-  pub only : readBlock (written m c r) 1 ≡ block.Fewer
-  -- that vector and those data are read as m
-  pub message : readMessage (getD (written m c r) 2 0) (drop 3 (written m c r)) ≡ Read m
-  -- and if m is a wrapper, the data behind its own 20 octets are the contents
-  pub contents : IsWrapper m → drop 20 (drop 3 (written m c r)) ≡ c
 
 -- So it is for every message each of whose fields is a number of its width (as is every message that code holds) and which has a written
 -- form (that is, which is no Join with another address than null or IPv4), if the contents that it carries are at most 1,454 octets and the
@@ -81,14 +57,6 @@ round-trip m c r fits form carried room =
     }
 
 -- ---- what is read is written again
-
--- the data d under the vector v are what m is written to
-pub record WrittenAgain (v : ℕ) (d : List ℕ) (m : Message) : Type 0 where
-  pub vector : vectorOf m ≡ v
-  -- its fields and, if it is a wrapper, as its contents the data behind its own 20 octets
-  pub body : fieldsOf m ++ contentsOf m (drop 20 d) ≡ d
-  -- so its PDU is the one of this vector and these data
-  pub whole : pduOf m (drop 20 d) ≡ pdu v d
 
 -- So it is for every vector and all octets that are read as a message which has a written form. (A wrapper with contents of more than 1,454
 -- octets is read too, and this holds of it, but writing it is refused.)

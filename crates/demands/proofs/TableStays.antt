@@ -19,11 +19,10 @@ use Rattle.record.specs.Reasons.{leavingReason}
 use Rattle.record.specs.WellFormed.{mostContents, wellFormed}
 use Rattle.record.specs.With.{freed}
 use Rattle.record.specs.declared.Record.{Record}
-use Rattle.record.specs.Places.{noPlace, placeAt}
+use Rattle.record.specs.Places.{placeAt, noPlace}
 use Rattle.gap.specs.Elapsed.{gives, elapsedOf}
 use Rattle.gap.specs.declared.Event.the-variants as event
 use Rattle.gap.specs.declared.Elapsed.{Elapsed}
-use Rattle.record.proofs.Choices.{either, never}
 use Rattle.gap.proofs.Moves.{Move, stands, expires, lost, goes-on, moves}
 use Rattle.gap.proofs.Stays.{elapsed-formed, terms-stay}
 use Rattle.wrapper.specs.Taken.{stepped}
@@ -51,10 +50,11 @@ use Rattle.member.specs.Messages.{Outcome, existingAt, isFound, tableAfter, ref
 use Rattle.member.specs.Elapsing.{longest, Passing, elapsedOutcome, passed}
 use Rattle.member.specs.Leaving.{Departing, leaveFor, departing, leaveOutcome}
 use Rattle.demands.specs.Calls as calls
-use Rattle.demands.specs.Calls.{Call, State, tableStep, lentAs, Sound, Lawful, Right}
-use Rattle.demands.proofs.Kept.{terms-kept}
-use Rattle.demands.proofs.Sounds.{Both, sound-by, aside, taken-sound, elapsed-sound, made-sound}
-use Rattle.demands.proofs.Brought.{Brings, asked-brings}
+use Rattle.demands.specs.Calls.{Call, State, tableStep, lentAs, Sound, Lawful, Right, Both}
+use Rattle.demands.proofs.Lemmas.Kept.{terms-kept}
+use Rattle.record.proofs.Choices.{either, never}
+use Rattle.demands.proofs.Lemmas.Sounds.{sound-by, aside, taken-sound, elapsed-sound, made-sound}
+use Rattle.demands.proofs.Lemmas.Brought.{Brings, asked-brings}
 
 -- ---- a table of the machine's numbers
 

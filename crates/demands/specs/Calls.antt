@@ -7,6 +7,8 @@ use mathlib.Core.Path.{_≡_}
 use lib.Dec.{eqb}
 use lib.ListN.{length, replicate}
 use Rattle.counter.specs.Distance.{turn}
+use Rattle.counter.specs.declared.Total.{Total}
+use Rattle.counter.specs.declared.Reliable.{Reliable}
 use Rattle.octets.specs.Octets.{Octets}
 use Rattle.record.specs.declared.Record.{Record}
 use Rattle.record.specs.Places.{placeAt}
@@ -68,6 +70,10 @@ pub record Sound (r : Record) : Type 0 where
   pub acked : r .acked .0 < turn
   pub held : (j : ℕ) → placeAt (r .places) j .reliable .0 < turn
   pub heldTotal : (j : ℕ) → placeAt (r .places) j .total .0 < turn
+
+-- the two numbers of a wrapper or a Join have 32 bits
+abbrev pub Both : Total → Reliable → Type 0
+Both t r = (t .0 < turn) × (r .0 < turn)
 
 -- the data of a message are octets
 abbrev pub Lawful : Call → Type 0

@@ -6,7 +6,7 @@ use mathlib.Core.List.{List, []}
 use lib.Dec.{ltb, eqb}
 use lib.ListN.{length, getD}
 use Rattle.octets.specs.Octets.{part}
-use Rattle.message.specs.Lengths.{reliableWrapper, unreliableWrapper, join}
+use Rattle.message.specs.Lengths.{reliableWrapper, join}
 use Rattle.message.specs.Layouts.{cidAt, wrapperOf, joinOf}
 use Rattle.message.specs.Reading.{readable, contents}
 use Rattle.message.specs.declared.Cid.{Cid}
@@ -38,11 +38,9 @@ use Rattle.member.specs.declared.Given.the-variants as given
 use Rattle.demands.specs.Runs.{Came}
 use Rattle.demands.specs.Calls as calls
 use Rattle.demands.specs.Calls.{Call, State}
+use Rattle.demands.specs.Refusals.{isWrapper}
 
 -- ---- whose calls
-
-abbrev pub isWrapper : ℕ → Bool
-isWrapper v = eqb v reliableWrapper || eqb v unreliableWrapper
 
 -- a message that can be read and names this channel: a wrapper on it, or a Join for it. Whatever else has the channel in its data is refused, by 4 or
 -- 5, and moves nothing; so it counts among the other calls
@@ -143,8 +141,12 @@ live h = h .at .used
 abbrev pub placesSize : ℕ
 placesSize = 4 * mostContents
 
+-- the octets of record i's four places, within all held octets
+abbrev pub slab : ℕ → List ℕ → List ℕ
+slab i held = part held (placeBegins i 0) placesSize
+
 unfoldable pub channelAt : ℕ → State → Channel
-channelAt i s = record { at = recordAt (s .table) i; held = part (s .held) (placeBegins i 0) placesSize }
+channelAt i s = record { at = recordAt (s .table) i; held = slab i (s .held) }
 
 abbrev pub toldGiven : Given → List Delivered → List ℕ → Told
 toldGiven (given.Refused number) delivered reply = refused number

@@ -1,4 +1,11 @@
+pub mod Contracts
 pub mod Runs
 pub mod Calls
+pub mod Refusals
+pub mod Blocks
 pub mod Channel
+pub mod TwoRuns
+pub mod Frame
 pub mod Order
+pub mod ReadBack
+pub mod Examples

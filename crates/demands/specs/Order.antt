@@ -1,21 +1,38 @@
--- What is said of the deliveries of a channel over a whole run (01, "One channel", steps 1, 3 and 4), and of the time that passes in it.
+-- What is said of a channel over a whole run: the order of its deliveries and where they come from (01, "One channel", steps 1, 3 and 4), what its NAKs ask for, and the
+-- time that passes ("A gap ends").
 use Prim.Native.Nat.{ℕ, zero, suc, _+_, _*_}
 use mathlib.Core.Bool.{Bool, true, false, cond, not, _||_}
 use mathlib.Core.List.{List, [], _∷_, _++_}
 use mathlib.Core.Path.{_≡_}
+use lib.Dec.{eqb}
 use lib.IntN.{pos}
+use lib.ListN.{length, getD}
 use lib.Signed.{leZ}
 use Rattle.counter.specs.Distance.{distance}
 use Rattle.counter.specs.Steps.{next}
 use Rattle.counter.specs.declared.Total.{Total}
 use Rattle.counter.specs.declared.Reliable.{Reliable}
+use Rattle.message.specs.Lengths.{reliableWrapper}
+use Rattle.message.specs.Layouts.{cidAt, wrapperOf, joinOf}
+use Rattle.message.specs.Reading.{contents}
+use Rattle.message.specs.declared.Cid.{Cid}
+use Rattle.message.specs.declared.Join.{Join}
+use Rattle.message.specs.declared.Parameters.{Parameters}
 use Rattle.record.specs.Profile.{nakTimeout, maxRetries}
 use Rattle.record.specs.WellFormed.{closed}
 use Rattle.record.specs.declared.Terms.{Terms}
-use Rattle.carry.specs.Carried.{Delivered}
+use Rattle.gap.specs.Range.{Asked}
+use Rattle.gap.specs.declared.Event.the-variants as event
+use Rattle.record.specs.Places.{noPlace}
+use Rattle.joining.specs.declared.Decision.the-variants as decision
+use Rattle.table.specs.declared.Found.the-variants as search
+use Rattle.carry.specs.Carried.{Delivered, fromPlace}
+use Rattle.member.specs.Messages.{messageOutcome}
+use Rattle.member.specs.declared.Given.the-variants as given
 use Rattle.demands.specs.Runs.{Came}
 use Rattle.demands.specs.Calls as calls
-use Rattle.demands.specs.Calls.{Call}
+use Rattle.demands.specs.Calls.{Call, State}
+use Rattle.demands.specs.Refusals.{isWrapper}
 use Rattle.demands.specs.Channel.{Channel, Told, refused, wrapped, joined, passed, left}
 
 -- ---- deliveries
@@ -51,6 +68,57 @@ reliableNumbers (x ∷ xs) = cond (x .delivery .reliably) (x .delivery .reliable
 unfoldable pub following : ℕ → ℕ → List ℕ
 following n zero = []
 following n (suc k) = next n ∷ following (next n) k
+
+-- ---- where deliveries come from
+
+-- the wrapper that a call brings, as it is delivered
+abbrev pub asSent : ℕ → List ℕ → Delivered
+asSent v d =
+    record {
+      delivery =
+          record {
+            reliably = eqb v reliableWrapper;
+            total = wrapperOf d .total;
+            reliable = wrapperOf d .reliable;
+            len = length (contents d);
+          };
+      contents = contents d;
+    }
+
+-- the call was not refused
+abbrev pub accepted : Told → Bool
+accepted (refused n) = false
+accepted (wrapped fate thrown ds reply) = true
+accepted (joined d reply) = true
+accepted (passed e sent) = true
+accepted (left reply) = true
+
+-- x was brought by one of the channel's own calls cs, and that call was accepted: ms is what a run shows of these calls, one after the other
+pub data BroughtBy (x : Delivered) : List Call → List (Came Channel Told) → Type 0 where
+  here : {held deliver reply : ℕ} {sender ours : List ℕ} {v : ℕ} {d : List ℕ} {n : ℕ} {cs : List Call} {m : Came Channel Told} {ms : List (Came Channel Told)}
+      → isWrapper v ≡ true → x ≡ asSent v d → accepted (m .answer) ≡ true
+      → BroughtBy x (calls.message held deliver reply sender ours v d n ∷ cs) (m ∷ ms)
+  later : {c : Call} {cs : List Call} {m : Came Channel Told} {ms : List (Came Channel Told)} → BroughtBy x cs ms → BroughtBy x (c ∷ cs) (m ∷ ms)
+
+-- x was brought by one of these calls, or the channel h holds it in one of its places
+pub data From (h : Channel) (cs : List Call) (ms : List (Came Channel Told)) (x : Delivered) : Type 0 where
+  received : BroughtBy x cs ms → From h cs ms x
+  kept : (j : ℕ) → getD (h .at .places) j noPlace .used ≡ true → x ≡ fromPlace (h .held) 0 j (getD (h .at .places) j noPlace) → From h cs ms x
+
+-- the call c is a Join j of this owner for this channel, and it makes record i
+pub data Makes (s : State) : Call → ℕ → Cid → ℕ → Join → Type 0 where
+  makes : (held deliver reply : ℕ) (sender ours : List ℕ) (v : ℕ) (d : List ℕ) (n i : ℕ) (p : Parameters)
+      → messageOutcome (s .table) (calls.lentAs held (s .held)) deliver reply sender ours v d n .given ≡ given.Joined (search.At i) (decision.Make p)
+      → Makes s (calls.message held deliver reply sender ours v d n) i (cidAt sender 0) (joinOf d .channel) (joinOf d)
+
+-- ---- what is asked for
+
+-- the range of a NAK begins after R, ends before every held number, and not past K: R, K and the held wrappers are the channel's when it is sent
+abbrev pub NakRight : Came Channel Told → Type 0
+NakRight m =
+    (n first last : Reliable) (outbound : Bool) (octets : List ℕ) → m .answer ≡ passed (event.Nak n first last outbound) octets
+    → (n ≡ m .state .at .reliable)
+    × Asked (m .state .at .reliable .0) (m .state .at .known .0) (m .state .at .places) (first .0) (last .0)
 
 -- ---- time
 

@@ -35,3 +35,8 @@ shown own view live (t ∷ ts) =
     cond (own (t .call))
     (view (t .came) ∷ cond (live (view (t .came) .state)) (shown own view live ts) [])
     (shown own view live ts)
+
+-- every one of a list is as P says
+pub data Each {C : Type 0} (P : C → Type 0) : List C → Type 0 where
+  none : Each P []
+  more : {c : C} {cs : List C} → P c → Each P cs → Each P (c ∷ cs)

@@ -18,16 +18,20 @@ use Rattle.table.specs.declared.Found.{Found}
 use Rattle.table.specs.declared.Found.the-variants.{At, Nowhere}
 use Rattle.sending.specs.Sent.{sentOf}
 use Rattle.member.specs.Sizes.{replySize, cidSize, leaveSizes}
-use Rattle.member.specs.Leaving.{Departing, refusedLeave, departing, leaveFor, leaveOutcome, left, leftReply}
+use Rattle.member.specs.Leaving.{Departing, refusedLeave, departing, leaveFor, leaveOutcome, left, leftReply, LeaveEndsAs}
 use Rattle.member.specs.declared.Left.{Left}
 
 -- what a call answers and leaves in the reply room, which was `room`
 abbrev pub Departed : Departing → Left → List ℕ → List ℕ → Type 0
-Departed p a room after = (a ≡ left p) × (after ≡ leftReply p room)
+Departed p a room after = LeaveEndsAs p room (record { answer = a; reply = after })
+
+-- from its two parts
+departed-by : (p : Departing) (a : Left) (room after : List ℕ) → a ≡ left p → after ≡ leftReply p room → Departed p a room after
+departed-by p a room after e f = λ i. record { answer = e i; reply = f i }
 
 refused : (ts : List Record) (number : ℕ) (a : Left) (room : List ℕ) → a ≡ left (refusedLeave ts number)
     → Departed (refusedLeave ts number) a room room
-refused ts number a room e = (e, splice-nothing room 0)
+refused ts number a room e = departed-by (refusedLeave ts number) a room room e (splice-nothing room 0)
 
 -- ---- the record that is left
 
@@ -36,7 +40,7 @@ pub departed : (ts ts′ : List Record) (i reason n : ℕ) (r : Record) (room af
     × (after ≡ splice room 0 (sentOf (departure (recordAt ts i .terms) (recordAt ts i .reliable) reason)))
     → Departed (departing ts i reason) (record { table = ts′; number = 0; at = i; reply = n }) room after
 unfolding departing
-departed ts ts′ i reason n r room after f t p = (rw (t, f, p .0), p .1)
+departed ts ts′ i reason n r room after f t p = departed-by (departing ts i reason) _ room after (rw (t, f, p .0)) (p .1)
 
 -- ---- refusals 6 and 10
 

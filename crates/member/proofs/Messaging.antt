@@ -23,14 +23,26 @@ use Rattle.asking.specs.declared.Asked.{Asked}
 use Rattle.asking.specs.declared.Asked.the-variants as asked
 use Rattle.asking.proofs.Steps.{asked-wrapper}
 use Rattle.member.specs.Sizes.{messageSizes}
-use Rattle.member.specs.Messages.{Outcome, refusedMessage, joinOutcome, askedOutcome, messageOutcome, messaged, deliverAfter, replyAfter}
+use Rattle.member.specs.Messages.{Outcome, refusedMessage, joinOutcome, askedOutcome, messageOutcome, messaged, deliverAfter, replyAfter, MessageEndsAs}
 use Rattle.member.specs.declared.Given.the-variants as given
 use Rattle.member.specs.declared.Messaged.{Messaged}
 
 -- the answer m, the held octets after the call, and the delivery and reply rooms before and after it, as the outcome has them
 abbrev pub Answers : Messaged → List ℕ → List ℕ → List ℕ → List ℕ → List ℕ → Outcome → Type 0
 Answers m held deliver deliver' reply reply' out =
-    (m ≡ messaged out) × (held ≡ out .held) × (deliver' ≡ deliverAfter out deliver) × (reply' ≡ replyAfter out reply)
+    MessageEndsAs out deliver reply (record { answer = m; held = held; deliver = deliver'; reply = reply' })
+
+-- from its four parts
+pub answers-by : (m : Messaged) (held deliver deliver' reply reply' : List ℕ) (out : Outcome) → m ≡ messaged out → held ≡ out .held
+    → deliver' ≡ deliverAfter out deliver → reply' ≡ replyAfter out reply → Answers m held deliver deliver' reply reply' out
+answers-by m held deliver deliver' reply reply' out a h d r =
+    λ i.
+    record {
+      answer = a i;
+      held = h i;
+      deliver = d i;
+      reply = r i;
+    }
 
 module _ (m : Messaged) (held deliver deliver' reply reply' : List ℕ) where
   pub answers-as : (out other : Outcome) → out ≡ other → Answers m held deliver deliver' reply reply' other
@@ -49,7 +61,7 @@ refused-done ts n none e = rw e
 pub refused-answers : (ts : List Record) (held deliver reply : List ℕ) (n : ℕ) (m : Messaged) → m ≡ messaged (refusedMessage ts [] n)
     → Answers m held deliver deliver reply reply (refusedMessage ts held n)
 unfolding deliverFrom
-refused-answers ts held deliver reply n m e = (e, refl, refl, splice-nothing reply 0)
+refused-answers ts held deliver reply n m e = answers-by m held deliver deliver reply reply _ e refl refl (splice-nothing reply 0)
 
 -- ---- a Join
 
@@ -58,7 +70,7 @@ pub join-answers : (ts : List Record) (held deliver reply reply' : List ℕ) (s 
     → (m ≡ messaged (joinOutcome ts [] s j n)) × (reply' ≡ replyAfter (joinOutcome ts [] s j n) reply)
     → Answers m held deliver deliver reply reply' (joinOutcome ts held s j n)
 unfolding joinOutcome deliverFrom
-join-answers ts held deliver reply reply' s j n m e = (e .0, refl, refl, e .1)
+join-answers ts held deliver reply reply' s j n m e = answers-by m held deliver deliver reply reply' _ (e .0) refl refl (e .1)
 
 -- ---- what is asked
 

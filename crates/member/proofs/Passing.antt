@@ -20,14 +20,18 @@ use Rattle.table.proofs.Tables.{formed}
 use Rattle.sending.specs.Sent.{eventOf}
 use Rattle.sending.proofs.Lengths.{event-within}
 use Rattle.member.specs.Sizes.{cellSize, cellsSize, elapsedSizes}
-use Rattle.member.specs.Elapsing.{Passing, longest, refusedElapsed, passing, elapsedOutcome, sentBy, cellOf, passed, cellsFrom, cellsAfter}
+use Rattle.member.specs.Elapsing.{Passing, longest, refusedElapsed, passing, elapsedOutcome, sentBy, cellOf, passed, cellsFrom, cellsAfter, ElapsedEndsAs}
 use Rattle.member.specs.declared.Cell.{Cell}
 use Rattle.member.specs.declared.Passed.{Passed}
 use Rattle.member.proofs.Lists.{over, over-none, over-all, over-here, over-more, into-part}
 
 -- what a call answers and leaves in the cells, which were `room`
 abbrev pub Moved : Passing → Passed → List ℕ → List ℕ → Type 0
-Moved p a room after = (a ≡ passed p) × (after ≡ cellsAfter p room)
+Moved p a room after = ElapsedEndsAs p room (record { answer = a; cells = after })
+
+-- from its two parts
+moved-by : (p : Passing) (a : Passed) (room after : List ℕ) → a ≡ passed p → after ≡ cellsAfter p room → Moved p a room after
+moved-by p a room after e f = λ i. record { answer = e i; cells = f i }
 
 each-length : {A B C : Type 0} (f : B → C) (g : A → B) (xs : List A) → length (map f (map g xs)) ≡ length xs
 each-length f g xs = length-map (map g xs) f ∙ length-map xs g
@@ -64,7 +68,7 @@ refused-is ts number l =
 
 refused : (ts : List Record) (number : ℕ) (a : Passed) (room : List ℕ) → a ≡ passed (refusedElapsed ts number)
     → Moved (refusedElapsed ts number) a room room
-refused ts number a room e = (e, still-room 0 ts room)
+refused ts number a room e = moved-by (refusedElapsed ts number) a room room e (still-room 0 ts room)
 
 -- ---- the refusals of a call
 
@@ -208,4 +212,4 @@ module _ (ms : ℕ) (first : Passed) (from : List ℕ) (i : ℕ) (a : Passed) (r
       rw (← s) (t .cells ∙ over-all (first .cells) (p .cells) i (omega (arith, t .places)) (omega arith)) in
       let number : a .number ≡ 0 = t .number ∙ ap (λ (x : Passed). x .number) e in
       let parts : _≡_ {A = Passed} (record { table = a .table; number = a .number; cells = a .cells }) (passed (passing ts ms)) = cc in
-      (parts, rw (← s) (rw (drop-of-length-le (first .table) none) at (t .rest)))
+      moved-by (passing ts ms) a from room parts (rw (← s) (rw (drop-of-length-le (first .table) none) at (t .rest)))

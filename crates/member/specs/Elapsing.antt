@@ -3,6 +3,7 @@
 use Prim.Native.Nat.{ℕ, _+_, _*_}
 use mathlib.Core.Bool.{cond, not}
 use mathlib.Core.List.{List, [], _∷_, map}
+use mathlib.Core.Path.{_≡_}
 use lib.ListN.{length}
 use lib.Dec.{ltb}
 use Rattle.octets.specs.Octets.{splice}
@@ -60,3 +61,22 @@ cellsFrom i (e ∷ es) room = cellsFrom (i + 1) es (splice room (i * cellSize) (
 
 abbrev pub cellsAfter : Passing → List ℕ → List ℕ
 cellsAfter p room = cellsFrom 0 (p .each) room
+
+-- ---- all that stands after the call, and what its contract allows
+
+-- the answer, and what the cells hold
+pub record ElapsedEnds : Type 0 where
+  pub answer : Passed
+  pub cells : List ℕ
+
+-- what `p` leaves, where `cells` lay in them before
+abbrev pub elapsedEnd : Passing → List ℕ → ElapsedEnds
+elapsedEnd p cells = record { answer = passed p; cells = cellsAfter p cells }
+
+-- the call ends as `p` says
+abbrev pub ElapsedEndsAs : Passing → List ℕ → ElapsedEnds → Type 0
+ElapsedEndsAs p cells end = end ≡ elapsedEnd p cells
+
+-- what the contract of an elapsed call allows
+abbrev pub ElapsedAllows : List Record → List ℕ → ℕ → ElapsedEnds → Type 0
+ElapsedAllows ts cells ms end = ElapsedEndsAs (elapsedOutcome ts (length cells) ms) cells end

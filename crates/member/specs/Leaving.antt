@@ -2,6 +2,7 @@
 use Prim.Native.Nat.{ℕ}
 use mathlib.Core.Bool.{cond, not}
 use mathlib.Core.List.{List, []}
+use mathlib.Core.Path.{_≡_}
 use lib.ListN.{length, set}
 use Rattle.octets.specs.Octets.{splice}
 use Rattle.message.specs.Layouts.{cidAt}
@@ -58,3 +59,22 @@ left p = record { table = p .table; number = p .number; at = p .at; reply = leng
 
 abbrev pub leftReply : Departing → List ℕ → List ℕ
 leftReply p room = splice room 0 (p .reply)
+
+-- ---- all that stands after the call, and what its contract allows
+
+-- the answer, and what the reply room holds
+pub record LeaveEnds : Type 0 where
+  pub answer : Left
+  pub reply : List ℕ
+
+-- what `p` leaves, where `reply` lay in the room before
+abbrev pub leaveEnd : Departing → List ℕ → LeaveEnds
+leaveEnd p reply = record { answer = left p; reply = leftReply p reply }
+
+-- the call ends as `p` says
+abbrev pub LeaveEndsAs : Departing → List ℕ → LeaveEnds → Type 0
+LeaveEndsAs p reply end = end ≡ leaveEnd p reply
+
+-- what the contract of a leave call allows
+abbrev pub LeaveAllows : List Record → List ℕ → List ℕ → ℕ → ℕ → LeaveEnds → Type 0
+LeaveAllows ts reply owner channel reason end = LeaveEndsAs (leaveOutcome ts (length reply) owner channel reason) reply end

@@ -3,6 +3,7 @@
 use Prim.Native.Nat.{ℕ}
 use mathlib.Core.Bool.{Bool, true, false, cond, not}
 use mathlib.Core.List.{List, []}
+use mathlib.Core.Path.{_≡_}
 use lib.ListN.{length, set}
 use lib.Dec.{eqb}
 use Rattle.octets.specs.Octets.{splice}
@@ -140,3 +141,31 @@ deliverAfter out room = deliverFrom 0 (out .delivered) room
 
 abbrev pub replyAfter : Outcome → List ℕ → List ℕ
 replyAfter out room = splice room 0 (out .reply)
+
+-- ---- all that stands after the call, and what its contract allows
+
+-- the answer, and what the held octets and the two rooms hold
+pub record MessageEnds : Type 0 where
+  pub answer : Messaged
+  pub held : List ℕ
+  pub deliver : List ℕ
+  pub reply : List ℕ
+
+-- what an outcome leaves, where `deliver` and `reply` lay in the rooms before
+abbrev pub messageEnd : Outcome → List ℕ → List ℕ → MessageEnds
+messageEnd out deliver reply =
+    record {
+      answer = messaged out;
+      held = out .held;
+      deliver = deliverAfter out deliver;
+      reply = replyAfter out reply;
+    }
+
+-- the call ends as the outcome says
+abbrev pub MessageEndsAs : Outcome → List ℕ → List ℕ → MessageEnds → Type 0
+MessageEndsAs out deliver reply end = end ≡ messageEnd out deliver reply
+
+-- what the contract of a message call allows, from the table and the octets that the call is given and lent
+abbrev pub MessageAllows : List Record → List ℕ → List ℕ → List ℕ → List ℕ → List ℕ → ℕ → List ℕ → ℕ → MessageEnds → Type 0
+MessageAllows ts held deliver reply sender ours v d n end =
+    MessageEndsAs (messageOutcome ts held (length deliver) (length reply) sender ours v d n) deliver reply end

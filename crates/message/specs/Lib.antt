@@ -1,3 +1,4 @@
 pub mod Lengths
 pub mod Layouts
 pub mod Reading
+pub mod Allowed

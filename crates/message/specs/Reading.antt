@@ -45,6 +45,11 @@ messageOf v d =
 unfoldable pub readMessage : ℕ → List ℕ → MessageRead
 readMessage v d = cond (readable v d) (Read (messageOf v d)) Unreadable
 
+-- 01's number for what reading a message answers; 0 if it is read
+abbrev pub numberOf : MessageRead → ℕ
+numberOf (Read m) = 0
+numberOf Unreadable = 4
+
 -- a wrapper's contents: its data past its own 20 octets
 abbrev pub contents : List ℕ → List ℕ
 contents d = drop 20 d

@@ -5,7 +5,8 @@ ghost use Prim.Native.Nat.{_+_, _≤_};
 ghost use lib.ListN.{length};
 ghost use Rattle.message.specs.Lengths.{joinRefuse, lengthOf};
 ghost use Rattle.message.specs.Layouts.{cidAt, membershipOf, wrapperOf, parametersAt, addressOf, joinOf};
-ghost use Rattle.message.specs.Reading.{readableJoin, readable, fixedOf, messageOf, readMessage};
+ghost use Rattle.message.specs.Reading.{readableJoin, readable, fixedOf, messageOf};
+ghost use Rattle.message.specs.Allowed.{ReadMessageAllows};
 use counter::Reliable;
 use counter::Total;
 use octets::u16_at;
@@ -342,7 +343,7 @@ fn message_of(vector: u8, body: &[u8]) -> Message
 
 // The message of this vector and data. A wrapper's contents are its data past the first 20 octets.
 pub fn read_message(vector: u8, body: &[u8]) -> MessageRead
-    ensures { λ r. ⌜ r ≡ readMessage vector (now (body .entry)) ⌝ }
+    ensures { λ r. ⌜ ReadMessageAllows vector (now (body .entry)) r ⌝ }
 {
     if !is_readable(vector, body) {
         return MessageRead::Unreadable;

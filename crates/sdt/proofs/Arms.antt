@@ -1,7 +1,7 @@
 -- What each arm of the code answers, over plain variables: x is what the called function gives, and a what its contract says of it.
 -- `search arms` then closes the arms. Assumes nothing.
 use Prim.Native.Nat.{ℕ}
-use mathlib.Core.Path.{_≡_}
+use mathlib.Core.Path.{_≡_, ap}
 use mathlib.Core.List.{List}
 use Rattle.block.specs.Block.{nothing}
 use Rattle.block.specs.Cursor.{start}
@@ -16,7 +16,7 @@ use Rattle.block.specs.declared.Next.the-variants as next
 use Rattle.message.specs.declared.Message.{Message}
 use Rattle.message.specs.declared.MessageRead.{MessageRead}
 use Rattle.message.specs.declared.MessageRead.the-variants as parsed
-use Rattle.writing.specs.Writing as writing
+use Rattle.writing.specs.Allowed.{WriteEnds, WriteMessageAllows}
 use Rattle.writing.specs.declared.Wrote.{Wrote}
 use Rattle.writing.specs.declared.Wrote.the-variants as wrote
 use Rattle.plain.specs.Messages.{noMessage, typedOf}
@@ -25,6 +25,7 @@ use Rattle.plain.specs.declared.Typed.{Typed}
 use Rattle.plain.specs.declared.Typed.the-variants as typed
 use Rattle.sdt.specs.Blocks.{ok, fewer, astray, blockAnswer, openAnswer, nextAnswer}
 use Rattle.sdt.specs.Messages.{messageAnswer, writeAnswer, writtenAnswer, writtenRoom}
+use Rattle.sdt.specs.Allowed.{SdtWriteMessageAllows}
 use Rattle.sdt.specs.declared.WriteAnswer.{WriteAnswer}
 
 -- ---- blocks
@@ -98,23 +99,16 @@ module _ (x : Wrote) where
 
 -- c is the contents and r the room; what stands in the room after a refusal is what stood there before
 module _ (p : Plain) (c r : List ℕ) (t : Typed) (e : t ≡ typedOf p) where
-  module _ (q : t ≡ typed.Unknown) where
-    pub unknown-answered : (w : WriteAnswer) → w ≡ writeAnswer wrote.NoForm → w ≡ writtenAnswer p c r
-    unfolding writtenAnswer
-    unknown-answered w f = rw (← e, q) f
+  pub unknown-written : t ≡ typed.Unknown → (w : WriteAnswer) → w ≡ writeAnswer wrote.NoForm → SdtWriteMessageAllows p c r (record { answer = w; room = r })
+  unfolding writtenAnswer writtenRoom
+  unknown-written q w f = rw (← e, q, f)
 
-    pub unknown-left : r ≡ writtenRoom p c r
-    unfolding writtenRoom
-    unknown-left = rw (← e, q)
-
-  module _ (m : Message) (q : t ≡ typed.Is m) where
-    pub written-answered : (x : Wrote) (w : WriteAnswer) → x ≡ writing.wrote m c r → w ≡ writeAnswer x → w ≡ writtenAnswer p c r
-    unfolding writtenAnswer
-    written-answered x w f g = rw (← e, q, ← f) g
-
-    pub written-left : (s : List ℕ) → s ≡ writing.roomAfter m c r → s ≡ writtenRoom p c r
-    unfolding writtenRoom
-    written-left s f = rw (← e, q) f
+  pub message-written : (m : Message) → t ≡ typed.Is m → (x : Wrote) (w : WriteAnswer) (s : List ℕ)
+      → WriteMessageAllows m c r (record { answer = x; room = s })
+      → w ≡ writeAnswer x
+      → SdtWriteMessageAllows p c r (record { answer = w; room = s })
+  unfolding writtenAnswer writtenRoom
+  message-written m q x w s f g = rw (← e, q, g) (ap (λ (n : WriteEnds). record { answer = writeAnswer (n .answer); room = n .room }) f)
 
 pub ruleset arms =
-    (read-found, read-fewer, read-long, read-malformed, open-messages, open-long, open-malformed, next-found, next-end, next-astray, message-unreadable, write-octets, write-no-form, write-no-room, write-contents-over, unknown-answered, unknown-left, written-answered, written-left)
+    (read-found, read-fewer, read-long, read-malformed, open-messages, open-long, open-malformed, next-found, next-end, next-astray, message-unreadable, write-octets, write-no-form, write-no-room, write-contents-over, unknown-written, message-written)

@@ -1,3 +1,4 @@
 pub mod Arms
 pub mod Apart
 pub mod EachKind
+pub mod Refused

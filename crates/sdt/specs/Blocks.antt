@@ -1,7 +1,7 @@
--- What C is answered when it reads blocks: 01's number and values for each outcome.
+-- What C is answered when it reads blocks: 01's number and values for each answer of `block`, as a struct of numbers.
 use Prim.Native.Nat.{ℕ}
-use Rattle.block.specs.Block.{nothing}
-use Rattle.block.specs.Cursor.{start}
+use Rattle.block.specs.Block.{nothing, numberOf as readNumber}
+use Rattle.block.specs.Cursor.{start, numberOf as openedNumber}
 use Rattle.block.specs.declared.Cursor.{Cursor}
 use Rattle.block.specs.declared.BlockRead.{BlockRead}
 use Rattle.block.specs.declared.BlockRead.the-variants as read
@@ -13,7 +13,7 @@ use Rattle.sdt.specs.declared.BlockAnswer.{BlockAnswer}
 use Rattle.sdt.specs.declared.OpenAnswer.{OpenAnswer}
 use Rattle.sdt.specs.declared.NextAnswer.{NextAnswer}
 
--- outcomes that are no refusals: a message, or done; no such message; a cursor of another block. Refusals are 01's numbers
+-- an outcome is 01's number of a refusal, or one of these: a message, or done; no such message; a cursor of another block
 abbrev pub ok : ℕ
 ok = 0
 
@@ -24,15 +24,15 @@ abbrev pub astray : ℕ
 astray = 101
 
 unfoldable pub blockAnswer : BlockRead → BlockAnswer
-blockAnswer (read.Message found) = record { outcome = ok; found = found; bad = 0 }
+blockAnswer (read.Message found) = record { outcome = readNumber (read.Message found); found = found; bad = 0 }
 blockAnswer read.Fewer = record { outcome = fewer; found = nothing; bad = 0 }
-blockAnswer read.TooLong = record { outcome = 1; found = nothing; bad = 0 }
-blockAnswer (read.Malformed bad) = record { outcome = 11; found = nothing; bad = bad }
+blockAnswer read.TooLong = record { outcome = readNumber read.TooLong; found = nothing; bad = 0 }
+blockAnswer (read.Malformed bad) = record { outcome = readNumber (read.Malformed bad); found = nothing; bad = bad }
 
 unfoldable pub openAnswer : Opened → OpenAnswer
-openAnswer (opened.Messages count cursor) = record { outcome = ok; count = count; cursor = cursor; bad = 0 }
-openAnswer opened.TooLong = record { outcome = 1; count = 0; cursor = start; bad = 0 }
-openAnswer (opened.Malformed bad) = record { outcome = 11; count = 0; cursor = start; bad = bad }
+openAnswer (opened.Messages count cursor) = record { outcome = openedNumber (opened.Messages count cursor); count = count; cursor = cursor; bad = 0 }
+openAnswer opened.TooLong = record { outcome = openedNumber opened.TooLong; count = 0; cursor = start; bad = 0 }
+openAnswer (opened.Malformed bad) = record { outcome = openedNumber (opened.Malformed bad); count = 0; cursor = start; bad = bad }
 
 -- c is the cursor that was given
 unfoldable pub nextAnswer : Cursor → Next → NextAnswer

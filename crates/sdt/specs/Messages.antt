@@ -1,9 +1,11 @@
--- What C is answered when it reads or writes a message: 01's number and values for each outcome.
+-- What C is answered when it reads or writes a message: 01's number and values for each answer of `message` and `writing`, as a struct of
+-- numbers.
 use Prim.Native.Nat.{ℕ}
 use mathlib.Core.List.{List}
+use Rattle.message.specs.Reading.{numberOf as readNumber}
 use Rattle.message.specs.declared.MessageRead.{MessageRead}
 use Rattle.message.specs.declared.MessageRead.the-variants as read
-use Rattle.writing.specs.Writing.{wrote, roomAfter}
+use Rattle.writing.specs.Writing.{wrote, roomAfter, numberOf as wroteNumber}
 use Rattle.writing.specs.declared.Wrote.{Wrote}
 use Rattle.writing.specs.declared.Wrote.the-variants as wrote
 use Rattle.plain.specs.Messages.{noMessage, plainOf, typedOf}
@@ -15,15 +17,18 @@ use Rattle.sdt.specs.declared.WriteAnswer.{WriteAnswer}
 
 -- reading: 0 and the message, or 4 and none
 unfoldable pub messageAnswer : MessageRead → MessageAnswer
-messageAnswer (read.Read m) = record { outcome = 0; message = plainOf m }
-messageAnswer read.Unreadable = record { outcome = 4; message = noMessage }
+messageAnswer (read.Read m) = record { outcome = readNumber (read.Read m); message = plainOf m }
+messageAnswer read.Unreadable = record { outcome = readNumber read.Unreadable; message = noMessage }
 
 -- writing: 0 and the number of octets written, or a refusal's number
+abbrev pub lengthOf : Wrote → ℕ
+lengthOf (wrote.Octets n) = n
+lengthOf wrote.NoForm = 0
+lengthOf wrote.NoRoom = 0
+lengthOf wrote.ContentsOver = 0
+
 unfoldable pub writeAnswer : Wrote → WriteAnswer
-writeAnswer (wrote.Octets n) = record { outcome = 0; length = n }
-writeAnswer wrote.NoForm = record { outcome = 4; length = 0 }
-writeAnswer wrote.NoRoom = record { outcome = 1; length = 0 }
-writeAnswer wrote.ContentsOver = record { outcome = 7; length = 0 }
+writeAnswer w = record { outcome = wroteNumber w; length = lengthOf w }
 
 -- p is the message as numbers, c the contents and r the room. Numbers that are none of the nine messages have no written form: 4
 abbrev pub answerTyped : Typed → List ℕ → List ℕ → WriteAnswer

@@ -1,11 +1,8 @@
 // The library as a C receiver sees it: reading blocks and messages, and writing messages, on numbers and octets alone. include/sdt.h says
 // the same in C. An answer is a struct of numbers that begins with its outcome: 0, a refusal's number, or one of the two further words below.
 ghost use mathlib.Core.Path.{_≡_};
-ghost use Rattle.block.specs.Block.{readBlock};
-ghost use Rattle.block.specs.Cursor.{openBlock, nextMessage};
-ghost use Rattle.message.specs.Reading.{readMessage};
-ghost use Rattle.sdt.specs.Blocks.{blockAnswer, openAnswer, nextAnswer};
-ghost use Rattle.sdt.specs.Messages.{messageAnswer, writeAnswer, writtenAnswer, writtenRoom};
+ghost use Rattle.sdt.specs.Messages.{writeAnswer};
+ghost use Rattle.sdt.specs.Allowed.{SdtReadBlockAllows, SdtOpenBlockAllows, SdtNextMessageAllows, SdtReadMessageAllows, SdtWriteMessageAllows};
 use block::BlockRead;
 use block::Cursor;
 use block::Found;
@@ -74,7 +71,7 @@ pub struct WriteAnswer {
 // Reads the message of a block at `position`, counted from 0.
 #[no_mangle]
 pub extern "C" fn sdt_read_block(block: &[u8], position: u32) -> BlockAnswer
-    ensures { λ r. ⌜ r ≡ blockAnswer (readBlock (now (block .entry)) position) ⌝ }
+    ensures { λ r. ⌜ SdtReadBlockAllows (now (block .entry)) position r ⌝ }
 {
     match block::read_block(block, position) {
         BlockRead::Message(found) => BlockAnswer {
@@ -103,7 +100,7 @@ pub extern "C" fn sdt_read_block(block: &[u8], position: u32) -> BlockAnswer
 // Opens a block: how many messages it has, and the cursor before the first.
 #[no_mangle]
 pub extern "C" fn sdt_open_block(block: &[u8]) -> OpenAnswer
-    ensures { λ r. ⌜ r ≡ openAnswer (openBlock (now (block .entry))) ⌝ }
+    ensures { λ r. ⌜ SdtOpenBlockAllows (now (block .entry)) r ⌝ }
 {
     let start = Cursor {
         next: 0,
@@ -134,7 +131,7 @@ pub extern "C" fn sdt_open_block(block: &[u8]) -> OpenAnswer
 // Reads the message behind a cursor.
 #[no_mangle]
 pub extern "C" fn sdt_next_message(block: &[u8], cursor: Cursor) -> NextAnswer
-    ensures { λ r. ⌜ r ≡ nextAnswer cursor (nextMessage (now (block .entry)) cursor) ⌝ }
+    ensures { λ r. ⌜ SdtNextMessageAllows (now (block .entry)) cursor r ⌝ }
 {
     match block::next_message(block, cursor) {
         Next::Message {
@@ -162,7 +159,7 @@ pub extern "C" fn sdt_next_message(block: &[u8], cursor: Cursor) -> NextAnswer
 // the fields of another.
 #[no_mangle]
 pub extern "C" fn sdt_read_message(vector: u8, body: &[u8]) -> MessageAnswer
-    ensures { λ r. ⌜ r ≡ messageAnswer (readMessage vector (now (body .entry))) ⌝ }
+    ensures { λ r. ⌜ SdtReadMessageAllows vector (now (body .entry)) r ⌝ }
 {
     let MessageRead::Read(m) = message::read_message(vector, body) else {
         return MessageAnswer {
@@ -307,8 +304,7 @@ fn write_answer(w: Wrote) -> WriteAnswer
 // Writes a message at the front of the room, with contents if it is a wrapper.
 #[no_mangle]
 pub extern "C" fn sdt_write_message(m: Plain, contents: &[u8], room: &mut [u8]) -> WriteAnswer
-    ensures { λ r. ⌜ r ≡ writtenAnswer m (now (contents .entry)) (now (room .entry)) ⌝ }
-    ensures { λ _. ⌜ now (room .exit) ≡ writtenRoom m (now (contents .entry)) (now (room .entry)) ⌝ }
+    ensures { λ w. ⌜ SdtWriteMessageAllows m (now (contents .entry)) (now (room .entry)) (record { answer = w; room = now (room .exit) }) ⌝ }
 {
     let Typed::Is(message) = plain::typed_of(m) else {
         return write_answer(Wrote::NoForm);

@@ -13,12 +13,13 @@ use denote.Enum.Declared.{tagOf}
 use Rattle.octets.specs.Octets.{splice}
 use Rattle.octets.proofs.Writes.{splice-splice}
 use Rattle.message.specs.declared.Message.{Message}
-use Rattle.writing.specs.Writing.{hasForm, wrote, leaves, roomAfter}
+use Rattle.writing.specs.Writing.{hasForm, leaves, roomAfter}
+use Rattle.writing.specs.Allowed.{WriteEnds, WriteMessageAllows}
 use Rattle.writing.specs.declared.Wrote.{Wrote}
 use Rattle.writing.specs.declared.Wrote.the-variants.{Octets, NoForm, NoRoom, ContentsOver}
 use Rattle.writing.proofs.Wrote.{the-type}
 use Rattle.writing.proofs.Forms.{carried-within, contents-length}
-use Rattle.writing.proofs.Answers.{whole, answer-is}
+use Rattle.writing.proofs.Answers.{Answer, whole, answer-is}
 use Rattle.sending.specs.Sent.{Put, sentOf}
 
 -- the places of the refusals among the answers
@@ -32,14 +33,20 @@ count NoRoom = 0
 count ContentsOver = 0
 
 -- w and s are what `write_message` answers and leaves
-module _ (m : Message) (r : List ℕ) (w : Wrote) (asked : (hasForm m ≡ true) × (length (sentOf m) ≤ length r)) (e : w ≡ wrote m [] r) where
+module _ (m : Message) (r s : List ℕ) (w : Wrote) (asked : (hasForm m ≡ true) × (length (sentOf m) ≤ length r)) (e : WriteMessageAllows m [] r (record { answer = w; room = s })) where
+  all-fits : Answer m [] r (Octets (length (sentOf m)))
+  all-fits = whole (asked .0) (asked .1) (omega (arith, contents-length m [], carried-within m 0 _ refl))
+
   answered : w ≡ Octets (length (sentOf m))
-  answered = e ∙ answer-is m [] r (whole (asked .0) (asked .1) (omega (arith, contents-length m [], carried-within m 0 _ refl)))
+  answered = ap (λ (n : WriteEnds). n .answer) e ∙ answer-is m [] r all-fits
 
   -- so a number that is answered is the message's length
-  pub all-written : (s : List ℕ) (n : ℕ) → s ≡ roomAfter m [] r → w ≡ Octets n → Put (sentOf m) n r s
+  pub all-written : (n : ℕ) → w ≡ Octets n → Put (sentOf m) n r s
   unfolding count roomAfter
-  all-written s n f g = (ap count (sym g ∙ answered), f ∙ ap (λ (x : Wrote). leaves x m [] r) (sym e ∙ answered))
+  all-written n g = (
+    ap count (sym g ∙ answered),
+    ap (λ (n : WriteEnds). n .room) e ∙ ap (λ (x : Wrote). leaves x m [] r) (answer-is m [] r all-fits),
+  )
 
   -- and nothing else is
   pub never-refused : OneOf refusals (tagOf the-type w) → ⊥

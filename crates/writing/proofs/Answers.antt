@@ -2,7 +2,7 @@
 -- `write_message` has at hand. Assumes nothing.
 use Prim.Native.Nat.{ℕ, _+_, _-_, _<_, _≤_}
 use native.Mathlib.Omega.{arith}
-use mathlib.Core.Path.{_≡_, refl, sym, ap, _∙_}
+use mathlib.Core.Path.{_≡_, refl, ap}
 use mathlib.Core.Bool.{Bool, true, false}
 use mathlib.Core.List.{List, _++_, append-nil}
 use lib.ListN.{length, take, length-append}
@@ -14,6 +14,7 @@ use Rattle.message.specs.Lengths.{lengthOf}
 use Rattle.message.specs.declared.Message.{Message}
 use Rattle.writing.specs.Fields.{fieldsOf}
 use Rattle.writing.specs.Writing.{most, vectorOf, formOf, hasForm, carriedOf, contentsOf, pduOf, wrote, leaves, roomAfter}
+use Rattle.writing.specs.Allowed.{WriteMessageAllows}
 use Rattle.writing.specs.declared.Form.{Form}
 use Rattle.writing.specs.declared.Wrote.{Wrote}
 use Rattle.writing.specs.declared.Wrote.the-variants.{Octets, NoForm, NoRoom, ContentsOver}
@@ -50,10 +51,10 @@ module _ (m : Message) (c r : List ℕ) where
       by true false true fe se oe = taken (over fe (ltb-false _ _ se) (ltb-true _ _ oe))
       by true false false fe se oe = taken (whole fe (ltb-false _ _ se) (ltb-false _ _ oe))
 
-  -- a call that gives one of them, with what that leaves in the room, does what is promised
-  ends : {w : Wrote} → Answer w → (w ≡ wrote m c r) × (leaves w m c r ≡ roomAfter m c r)
+  -- a call that gives one of them, and leaves in the room what belongs to it, does what is promised
+  ends : {w x : Wrote} {s : List ℕ} → Answer w → x ≡ w → s ≡ leaves w m c r → WriteMessageAllows m c r (record { answer = x; room = s })
   unfolding roomAfter
-  ends a = (sym (answer-is a), rw (answer-is a))
+  ends a e l = rw (answer-is a, e, l)
 
   -- head, fields and contents, one right behind the other, are the PDU
   placed : (s t u : List ℕ) → length (pduOf m c) ≤ length r
@@ -75,8 +76,8 @@ module _ (m : Message) (form : Form) (len : ℕ) (e : form ≡ formOf m) (l : le
   unfolding formOf
   vector-is = ap (λ (f : Form). f .vector) e
 
-  pub no-form-answered : (c r : List ℕ) → len ≡ 0 → (NoForm ≡ wrote m c r) × (r ≡ roomAfter m c r)
-  no-form-answered c r z = ends m c r (formless (none-listed (hasForm m) len (length (fieldsOf m)) told z))
+  pub no-form-answered : (c r : List ℕ) → len ≡ 0 → WriteMessageAllows m c r (record { answer = NoForm; room = r })
+  no-form-answered c r z = ends m c r (formless (none-listed (hasForm m) len (length (fieldsOf m)) told z)) refl refl
 
   module _ (n : len ≡ 0 → ⊥) where
     formed : (hasForm m ≡ true) × (len ≡ length (fieldsOf m))
@@ -89,12 +90,12 @@ module _ (m : Message) (form : Form) (len : ℕ) (e : form ≡ formOf m) (l : le
       size-is : 3 + len + more ≡ length (pduOf m c)
       size-is = omega (arith, pdu-length m c, formed .1)
 
-      pub no-room-answered : length r < 3 + len + more → (NoRoom ≡ wrote m c r) × (r ≡ roomAfter m c r)
-      no-room-answered h = ends m c r (short (formed .0) (omega (arith, size-is)))
+      pub no-room-answered : length r < 3 + len + more → WriteMessageAllows m c r (record { answer = NoRoom; room = r })
+      no-room-answered h = ends m c r (short (formed .0) (omega (arith, size-is))) refl refl
 
       module _ (h : 3 + len + more ≤ length r) where
-        pub over-answered : most < more → (ContentsOver ≡ wrote m c r) × (r ≡ roomAfter m c r)
-        over-answered o = ends m c r (over (formed .0) (omega (arith, size-is)) (omega (arith, contents-length m c)))
+        pub over-answered : most < more → WriteMessageAllows m c r (record { answer = ContentsOver; room = r })
+        over-answered o = ends m c r (over (formed .0) (omega (arith, size-is)) (omega (arith, contents-length m c))) refl refl
 
         body-is : 3 + len + more ≡ 3 + length (fieldsOf m ++ contentsOf m c)
         body-is = omega (arith, length-append (fieldsOf m) (contentsOf m c), contents-length m c, formed .1)
@@ -104,9 +105,7 @@ module _ (m : Message) (form : Form) (len : ℕ) (e : form ≡ formOf m) (l : le
             → s ≡ splice r 0 (head size (form .vector))
             → t ≡ splice s 3 (fieldsOf m)
             → u ≡ splice t at p
-            → (Octets size ≡ wrote m c r) × (u ≡ roomAfter m c r)
+            → WriteMessageAllows m c r (record { answer = Octets size; room = u })
         whole-answered s t u p size at o ze ae pe se te ue =
-            let a = ends m c r (whole (formed .0) (omega (arith, size-is)) (omega (arith, contents-length m c))) in (
-              rw (ze, size-is) (a .0),
-              placed m c r s t u (omega (arith, size-is)) (rw (ze, body-is, vector-is) at se) te (rw (ae, pe, formed .1, k) at ue) ∙ a .1,
-            )
+            ends m c r (whole (formed .0) (omega (arith, size-is)) (omega (arith, contents-length m c))) (rw (ze, size-is))
+            (placed m c r s t u (omega (arith, size-is)) (rw (ze, body-is, vector-is) at se) te (rw (ae, pe, formed .1, k) at ue))

@@ -1,3 +1,4 @@
 pub mod Fields
 pub mod Writing
 pub mod Fits
+pub mod Allowed

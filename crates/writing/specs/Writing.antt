@@ -83,6 +83,13 @@ wrote m c r =
     (cond (ltb most (length (contentsOf m c))) ContentsOver
     (Octets (length (pduOf m c)))))
 
+-- 01's number for what writing a message answers; 0 if it is written
+abbrev pub numberOf : Wrote → ℕ
+numberOf (Octets n) = 0
+numberOf NoForm = 4
+numberOf NoRoom = 1
+numberOf ContentsOver = 7
+
 -- what the room then holds: the PDU at its front and all else as it was, or after a refusal what it held before
 abbrev pub leaves : Wrote → Message → List ℕ → List ℕ → List ℕ
 leaves (Octets n) m c r = splice r 0 (pduOf m c)

@@ -6,7 +6,8 @@ ghost use mathlib.Core.List.{[], _∷_};
 ghost use Rattle.octets.specs.Octets.{octets, splice, joined};
 ghost use Rattle.block.specs.Written.{head};
 ghost use Rattle.writing.specs.Fields.{cidOctets, membershipOctets, wrapperOctets, parametersOctets, addressOctets, joinOctets, fieldsOf};
-ghost use Rattle.writing.specs.Writing.{typeOf, formOf, carriedOf, wrote, roomAfter};
+ghost use Rattle.writing.specs.Writing.{typeOf, formOf, carriedOf};
+ghost use Rattle.writing.specs.Allowed.{WriteMessageAllows};
 use message::Address;
 use message::Cid;
 use message::Join;
@@ -267,8 +268,7 @@ fn carried(m: Message, len: usize) -> usize
 
 // Writes a message at the front of the room, with contents if it is a wrapper. A refusal leaves the room as it was.
 pub fn write_message(m: Message, contents: &[u8], room: &mut [u8]) -> Wrote
-    ensures { λ r. ⌜ r ≡ wrote m (now (contents .entry)) (now (room .entry)) ⌝ }
-    ensures { λ _. ⌜ now (room .exit) ≡ roomAfter m (now (contents .entry)) (now (room .entry)) ⌝ }
+    ensures { λ w. ⌜ WriteMessageAllows m (now (contents .entry)) (now (room .entry)) (record { answer = w; room = now (room .exit) }) ⌝ }
 {
     let form = form_of(m);
     let len = length_of(form.vector, form.address);

@@ -19,7 +19,7 @@ same-length c = search needs
 returns : tie.Need-returns
 returns c =
     let wrote = c .before .before .before in
-    absurd (never-refused _ _ _ (wrote .before .before .before .before .pre) (wrote .write-message .ensures .0) (c .match .keys2))
+    absurd (never-refused _ _ _ _ (wrote .before .before .before .before .pre) (wrote .write-message .ensures) (c .match .keys2))
 
 same-length-2 : tie.Need-same-length-2
 same-length-2 c = search needs
@@ -27,8 +27,7 @@ same-length-2 c = search needs
 returns-2 : tie.Need-returns-2
 returns-2 c =
     let wrote = c .before .before .before .before .before in
-    all-written _ _ _ (wrote .before .before .before .before .pre) (wrote .write-message .ensures .0) _ _
-    (wrote .write-message .ensures .1) (c .before .n .given .1)
+    all-written _ _ _ _ (wrote .before .before .before .before .pre) (wrote .write-message .ensures) _ (c .before .n .given .1)
 
 pub put-message-spec : {M : Type 1} → statement M
 put-message-spec =
