@@ -8,7 +8,7 @@ use lib.Dec.{T, ltb, leb→le, le→leb}
 use lib.IntN.{ℤ, pos, negsuc, negℤ, _+ℤ_, _-ℤ_, +ℤ-assoc, +ℤ-comm, +ℤ-idl, +ℤ-invl, +ℤ-negℤ-cancel, -ℤ-+ℤ-cancel, pos-ne-negsuc}
 use lib.Signed.{leZ}
 use borrow.Author.Tests.{le-ltb, ltb-true, ltb-false}
-use Rattle.counter.specs.Distance.{turn, ahead, signed, distance, Distance}
+use Rattle.counter.specs.Distance.{turn, half, ahead, signed, distance, Distance}
 
 -- ---- the equation of the sentence
 
@@ -81,7 +81,7 @@ distance-only old new (negsuc p) (negsuc q) s t =
 -- ---- and `distance` is one
 
 -- such an equation makes the sentence true of a number ahead, and of one behind
-is-ahead : {old new p : ℕ} (j k : ℕ) → p < 2147483648 → p + (j * turn + old) ≡ new + k * turn → Distance old new (pos p)
+is-ahead : {old new p : ℕ} (j k : ℕ) → p < half → p + (j * turn + old) ≡ new + k * turn → Distance old new (pos p)
 is-ahead {old} {new} {p} j k h e =
     record {
       low = tt;
@@ -89,7 +89,7 @@ is-ahead {old} {new} {p} j k h e =
       modulo = (j, k, taken (pos p) old new j k (ap pos e));
     }
 
-is-behind : {old new p : ℕ} (j k : ℕ) → p < 2147483648 → j * turn + old ≡ suc p + (new + k * turn) → Distance old new (negsuc p)
+is-behind : {old new p : ℕ} (j k : ℕ) → p < half → j * turn + old ≡ suc p + (new + k * turn) → Distance old new (negsuc p)
 is-behind {old} {new} {p} j k h e =
     record {
       low = omega (arith, le→leb);
@@ -100,13 +100,13 @@ is-behind {old} {new} {p} j k h e =
 -- new + turn − old is `ahead` and some turns; read as behind, a number is one turn less
 pub distance-is : (old new : ℕ) → old < turn → new < turn → Distance old new (distance old new)
 unfolding distance
-distance-is old new ho hn = by (ltb (ahead old new) 2147483648) refl
+distance-is old new ho hn = by (ltb (ahead old new) half) refl
   where
-    by : (t : Bool) → ltb (ahead old new) 2147483648 ≡ t → Distance old new (signed (ahead old new))
+    by : (t : Bool) → ltb (ahead old new) half ≡ t → Distance old new (signed (ahead old new))
     by true e =
-        rw e (is-ahead ((new + turn - old) / turn) 1 (ltb-true (ahead old new) 2147483648 e) (omega arith))
+        rw e (is-ahead ((new + turn - old) / turn) 1 (ltb-true (ahead old new) half e) (omega arith))
     by false e =
-        let h : 2147483648 ≤ ahead old new = ltb-false (ahead old new) 2147483648 e in
+        let h : half ≤ ahead old new = ltb-false (ahead old new) half e in
         rw e (is-behind (suc ((new + turn - old) / turn)) 1 (omega arith) (omega arith))
 
 -- so the number of which the sentence is true is `distance`

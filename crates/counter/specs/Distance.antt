@@ -15,9 +15,13 @@ turn = 4294967296
 abbrev pub ahead : ℕ → ℕ → ℕ
 ahead old new = (new + turn - old) % turn
 
+-- half a turn: 2^31 numbers
+abbrev pub half : ℕ
+half = 2147483648
+
 -- n numbers ahead as a signed number: less than half a turn is ahead, and from the half turn on it is behind
 abbrev pub signed : ℕ → ℤ
-signed n = cond (ltb n 2147483648) (pos n) (negsuc (4294967295 - n))
+signed n = cond (ltb n half) (pos n) (negsuc (4294967295 - n))
 
 -- 01's distance, as the code computes it
 unfoldable pub distance : ℕ → ℕ → ℤ

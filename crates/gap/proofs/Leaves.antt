@@ -26,7 +26,6 @@ use Rattle.record.specs.declared.Gap.{Gap}
 use Rattle.record.specs.declared.Gap.the-variants as gap
 use Rattle.record.specs.declared.Place.{Place}
 use Rattle.record.specs.declared.Record.{Record}
-use Rattle.record.proofs.Profile.{retries-fit}
 use Rattle.record.proofs.Formed.{formed, has-modulus, idle-below, standoff-count}
 use Rattle.gap.specs.Standoff.{standoffOf}
 use Rattle.gap.specs.Range.{nearer, nearest, nakFirst, nakLast}
@@ -127,8 +126,8 @@ module _ (r s : Record) (left count : ℕ) where
 pub ruleset two-phases = (standoff-ends, standoff-goes-on, wait-lost, wait-ends, wait-goes-on)
 
 module _ (r : Record) (u : r .used ≡ true) (w : wellFormed r ≡ true) where
-  pub may-count : (left count : ℕ) → r .gap ≡ gap.Standoff left count → count < 255
-  may-count left count e = omega (arith, retries-fit, standoff-count (formed r w u) left count e)
+  pub may-count : (left count : ℕ) → r .gap ≡ gap.Standoff left count → count < maxRetries
+  may-count left count e = standoff-count (formed r w u) left count e
 
   pub may-stand-off : 0 < r .terms .modulus
   may-stand-off = has-modulus (formed r w u)

@@ -2,6 +2,7 @@
 ghost use mathlib.Core.Path.{_≡_};
 ghost use mathlib.Core.Bool.{true};
 ghost use Prim.Native.Nat.{_+_, _-_, _<_, _≤_};
+ghost use Rattle.record.specs.Profile.{maxRetries};
 ghost use Rattle.record.specs.With.{withIdle};
 ghost use Rattle.record.specs.WellFormed.{wellFormed};
 ghost use Rattle.gap.specs.Standoff.{standoff, standoffOf};
@@ -134,7 +135,7 @@ fn less(left: u32, ms: u32) -> u32
 
 // A standoff of which `left` milliseconds are left: at 0 a NAK is sent and its wait begins.
 fn in_standoff(r: Record, left: u32, count: u8) -> Elapsed
-    requires { ⌜ count < 255 ⌝ }
+    requires { ⌜ count < maxRetries ⌝ }
     ensures { λ e. ⌜ e ≡ inStandoff r left count ⌝ }
 {
     if left == 0 {

@@ -1,5 +1,5 @@
 -- The profile's numbers (000, Table 4, by way of the interoperability profile: docs/DECISIONS.md). They stand here once; no theorem leans on their values,
--- but on what proofs/Profile.antt says of them: that NAK_MAX_RETRIES and MIN_EXPIRY_TIME are not 0, and that a count of NAKs fits an octet.
+-- but on what proofs/Profile.antt says of them: that NAK_MAX_RETRIES and MIN_EXPIRY_TIME are not 0, and that a count of NAKs and one more fit an octet.
 use Prim.Native.Nat.{ℕ, _*_}
 
 -- MIN_EXPIRY_TIME, in seconds

@@ -14,9 +14,9 @@ use Rattle.message.specs.declared.Message.the-variants as message
 use Rattle.record.specs.declared.Terms.{Terms}
 use Rattle.joining.specs.Replies.{joinRefuseOf, acceptance, departure, missing}
 use Rattle.writing.specs.Writing.{addressOf, hasForm}
-use Rattle.sending.specs.Sent.{sentOf, welcomeOf}
+use Rattle.sending.specs.Sent.{Put, sentOf, welcomeOf}
 use Rattle.sending.proofs.Lengths.{ack-length, leaving-length, nak-length, refuse-length, accept-length}
-use Rattle.sending.proofs.Puts.{Put, both-put}
+use Rattle.sending.proofs.Puts.{both-put}
 
 -- ---- each fits
 
@@ -49,8 +49,9 @@ module _ (m : Message) (k : ℕ) (h : 64 ≤ k) where
 pub ack-taken : (r : Reliable) (n : ℕ) → n ≡ length (sentOf (message.Ack r)) → n ≡ 7
 ack-taken r n e = e ∙ ack-length r
 
-pub accept-taken : (owner : Cid) (j : Join) (r : Reliable) (k n : ℕ) → n ≡ length (sentOf (acceptance owner j r k)) → n ≡ 29
-accept-taken owner j r k n e = e ∙ accept-length owner j r k
+pub accept-taken : (owner : Cid) (j : Join) (r : Reliable) (k : ℕ) (m : Message) (n : ℕ) → m ≡ acceptance owner j r k → n ≡ length (sentOf m)
+    → n ≡ 29
+accept-taken owner j r k m n f e = e ∙ (rw f (accept-length owner j r k))
 
 -- ---- a new member's reply
 
@@ -62,4 +63,4 @@ pub welcome-put : (owner : Cid) (j : Join) (own : ℕ) (r s t : List ℕ) (at n 
     → Put (welcomeOf owner j own) k r (take at s ++ (t ++ drop (length s - at) (drop at s)))
 unfolding welcomeOf
 welcome-put owner j own r s t at n i k h a b e f =
-    rw f (both-put r s t _ _ at n i e (omega (arith, accept-taken owner j (j .reliable) own n (a .0))) a b)
+    rw f (both-put r s t _ _ at n i e (omega (arith, accept-taken owner j (j .reliable) own _ n refl (a .0))) a b)

@@ -20,11 +20,7 @@ use Rattle.writing.specs.declared.Wrote.the-variants.{Octets, NoForm, NoRoom, C
 use Rattle.writing.proofs.Wrote.{the-type}
 use Rattle.writing.proofs.Forms.{carried-within, contents-length}
 use Rattle.writing.proofs.Answers.{Answer, whole, answer-is}
-use Rattle.sending.specs.Sent.{sentOf}
-
--- n octets xs are at the front of s, which was r
-abbrev pub Put : List ℕ → ℕ → List ℕ → List ℕ → Type 0
-Put xs n r s = (n ≡ length xs) × (s ≡ splice r 0 xs)
+use Rattle.sending.specs.Sent.{Put, sentOf}
 
 -- the places of the refusals among the answers
 abbrev refusals : List ℕ

@@ -1,6 +1,9 @@
 -- The octets of what a member sends (01, "Joining" and "One channel").
 use Prim.Native.Nat.{ℕ}
 use mathlib.Core.List.{List, [], _++_}
+use mathlib.Core.Path.{_≡_}
+use lib.ListN.{length}
+use Rattle.octets.specs.Octets.{splice}
 use Rattle.message.specs.declared.Cid.{Cid}
 use Rattle.message.specs.declared.Join.{Join}
 use Rattle.message.specs.declared.Message.{Message}
@@ -14,6 +17,10 @@ use Rattle.wrapper.specs.declared.Reply.the-variants as reply
 use Rattle.joining.specs.Replies.{joinRefuseOf, acceptance, departure, missing}
 use Rattle.joining.specs.declared.Decision.{Decision}
 use Rattle.joining.specs.declared.Decision.the-variants as decision
+
+-- the octets xs, n of them, stand at the front of a room that was r and then is s, and behind them it is as it was
+abbrev pub Put : List ℕ → ℕ → List ℕ → List ℕ → Type 0
+Put xs n r s = (n ≡ length xs) × (s ≡ splice r 0 xs)
 
 -- the PDU of a message that carries no contents
 abbrev pub sentOf : Message → List ℕ

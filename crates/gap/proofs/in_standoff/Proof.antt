@@ -1,4 +1,6 @@
 -- `in_standoff` meets its contract: with no time left it sends the NAK of `inStandoff`. Assumes nothing.
+use native.Mathlib.Omega.{arith}
+use Rattle.record.proofs.Profile.{retries-fit}
 use Rattle.gap.proofs.Leaves.{two-phases}
 use borrow.Author.Needs.{needs}
 use Rattle.gap.proofs.in_standoff.Statement.{statement}
@@ -8,7 +10,7 @@ nak-timeout-requires : tie.Need-nak-timeout-requires
 nak-timeout-requires c κs = search needs
 
 add-t9 : tie.Need-add-t9
-add-t9 c = search needs
+add-t9 c = omega (arith, retries-fit)
 
 with-gap-requires : tie.Need-with-gap-requires
 with-gap-requires c κs = search needs

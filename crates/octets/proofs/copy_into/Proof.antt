@@ -1,3 +1,4 @@
+-- `copy_into` meets its contract: after i turns the first i octets are copied. Assumes nothing.
 use native.Mathlib.Omega.{arith}
 use mathlib.Core.Path.{_≡_, refl}
 use Prim.Native.Nat.{_≤_, _-_}

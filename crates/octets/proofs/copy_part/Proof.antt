@@ -1,3 +1,4 @@
+-- `copy_part` meets its contract: the part is lent and copied whole. Assumes nothing.
 use native.Mathlib.Nat.{add-sub-cancel-left}
 use borrow.Author.Needs.{needs}
 use Rattle.octets.proofs.copy_part.Statement.{statement}

@@ -1,3 +1,4 @@
+-- `put_u16` meets its contract: two octets stored one behind the other are one splice. Assumes nothing.
 use native.Mathlib.Omega.{arith}
 use lib.ListN.{length-set}
 use Rattle.octets.proofs.Writes.{splice-two}

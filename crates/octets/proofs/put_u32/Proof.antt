@@ -1,3 +1,4 @@
+-- `put_u32` meets its contract: its two halves written one behind the other are one splice. Assumes nothing.
 use native.Mathlib.Omega.{arith}
 use Rattle.octets.proofs.Writes.{splice-halves}
 use borrow.Author.Needs.{needs}

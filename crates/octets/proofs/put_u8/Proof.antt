@@ -1,3 +1,4 @@
+-- `put_u8` meets its contract: one octet stored is a splice of one. Assumes nothing.
 use native.Mathlib.Omega.{arith}
 use Rattle.octets.proofs.Writes.{splice-one}
 use borrow.Author.Needs.{needs}

@@ -1,3 +1,4 @@
+-- `u16_at` meets its contract: two octets are the number that they spell. Assumes nothing.
 use native.Mathlib.Omega.{arith}
 use Prim.Native.Nat.{_+_}
 use Rattle.octets.proofs.Numbers.{number-two}

@@ -1,3 +1,4 @@
+-- `u64_at` meets its contract: its two halves of four octets make the number. Assumes nothing.
 use native.Mathlib.Omega.{arith}
 use Rattle.octets.proofs.Numbers.{number-halves}
 use borrow.Author.Needs.{needs}

@@ -1,3 +1,4 @@
+-- `u8_at` meets its contract: an octet of a lent slice is below 256. Assumes nothing.
 use native.Mathlib.Omega.{arith}
 use mathlib.Core.Path.{refl}
 use borrow.Author.Needs.{needs}

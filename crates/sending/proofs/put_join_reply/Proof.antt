@@ -1,5 +1,7 @@
 -- `sending::put_join_reply` meets its contract: each decision is put as its message or messages. Assumes nothing.
 use Rattle.sending.specs.Sent.{joinReplyOf}
+use Rattle.sending.proofs.Messages.{refuse-fits, accept-fits}
+use Rattle.sending.proofs.Puts.{same-put}
 use borrow.Author.Needs.{needs}
 use Rattle.sending.proofs.put_join_reply.Statement.{statement}
 use Rattle.sending.proofs.put_join_reply.Tie as tie
@@ -7,14 +9,20 @@ use Rattle.sending.proofs.put_join_reply.Tie as tie
 enum-known-decision : tie.Need-enum-known-decision
 enum-known-decision c = search needs
 
-put-join-refuse-requires : tie.Need-put-join-refuse-requires
-put-join-refuse-requires c κs = search needs
+join-refuse-of-requires : tie.Need-join-refuse-of-requires
+join-refuse-of-requires c κs = search needs
+
+put-message-requires : tie.Need-put-message-requires
+put-message-requires c κs = refuse-fits _ _ (search needs) _ _ _ (c .join-refuse-of .ensures)
 
 enum-known-decision-2 : tie.Need-enum-known-decision-2
 enum-known-decision-2 c = search needs
 
-put-acceptance-requires : tie.Need-put-acceptance-requires
-put-acceptance-requires c κs = search needs
+acceptance-of-requires : tie.Need-acceptance-of-requires
+acceptance-of-requires c κs = search needs
+
+put-message-requires-2 : tie.Need-put-message-requires-2
+put-message-requires-2 c κs = accept-fits _ _ (search needs) _ _ _ _ (c .acceptance-of .ensures)
 
 enum-told : tie.Need-enum-told
 enum-told c = search needs
@@ -27,14 +35,14 @@ same-length c = search needs
 
 returns : tie.Need-returns
 unfolding joinReplyOf
-returns c = search (c .before .before .before .before .before .decision .given .1, c .before .before .put-join-refuse .ensures)
+returns c = search (c .before .before .before .before .before .before .decision .given .1, same-put _ _ _ _ _ (c .before .before .put-message .ensures) (c .before .before .before .join-refuse-of .ensures))
 
 same-length-2 : tie.Need-same-length-2
 same-length-2 c = search needs
 
 returns-2 : tie.Need-returns-2
 unfolding joinReplyOf
-returns-2 c = search (c .before .before .before .before .before .decision2 .given .1, c .before .before .put-acceptance .ensures)
+returns-2 c = search (c .before .before .before .before .before .before .decision2 .given .1, same-put _ _ _ _ _ (c .before .before .put-message2 .ensures) (c .before .before .before .acceptance-of .ensures))
 
 same-length-3 : tie.Need-same-length-3
 same-length-3 c = search needs
@@ -48,9 +56,11 @@ put-join-reply-spec =
     tie.close
     (tie.spec
     enum-known-decision
-    put-join-refuse-requires
+    join-refuse-of-requires
+    put-message-requires
     enum-known-decision-2
-    put-acceptance-requires
+    acceptance-of-requires
+    put-message-requires-2
     enum-told
     put-welcome-requires
     same-length

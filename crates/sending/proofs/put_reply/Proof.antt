@@ -1,6 +1,8 @@
 -- `sending::put_reply` meets its contract: each reply is put as its message. Assumes nothing.
+use native.Mathlib.Omega.{arith}
 use Rattle.octets.proofs.Writes.{splice-nothing}
 use Rattle.sending.specs.Sent.{replyOf}
+use Rattle.sending.proofs.Messages.{ack-fits}
 use borrow.Author.Needs.{needs}
 use Rattle.sending.proofs.put_reply.Statement.{statement}
 use Rattle.sending.proofs.put_reply.Tie as tie
@@ -11,8 +13,8 @@ enum-told c = search needs
 enum-known-reply : tie.Need-enum-known-reply
 enum-known-reply c = search needs
 
-put-ack-requires : tie.Need-put-ack-requires
-put-ack-requires c κs = search needs
+put-message-requires : tie.Need-put-message-requires
+put-message-requires c κs = ack-fits _ _ (omega arith)
 
 enum-known-reply-2 : tie.Need-enum-known-reply-2
 enum-known-reply-2 c = search needs
@@ -29,7 +31,7 @@ same-length c = search needs
 
 returns-2 : tie.Need-returns-2
 unfolding replyOf
-returns-2 c = search (c .before .before .before .before .before .reply .given .1, c .before .before .put-ack .ensures)
+returns-2 c = search (c .before .before .before .before .before .reply .given .1, c .before .before .put-message .ensures)
 
 same-length-2 : tie.Need-same-length-2
 same-length-2 c = search needs
@@ -44,7 +46,7 @@ put-reply-spec =
     (tie.spec
     enum-told
     enum-known-reply
-    put-ack-requires
+    put-message-requires
     enum-known-reply-2
     put-leaving-requires
     returns

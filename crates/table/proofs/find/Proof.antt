@@ -21,9 +21,7 @@ loop-holds c = (search needs, search needs, refl)
 
 returns : tie.Need-returns Inv-loop μ-loop
 unfolding found
-returns c =
-    let l = c .before .loop in
-    left-none _ At Nowhere tells 8 _ (l .i) (l .inv) (omega arith)
+returns c = left-none _ At Nowhere tells 8 _ _ (c .before .loop .inv) (omega arith)
 
 mul-r : tie.Need-mul-r Inv-loop μ-loop
 mul-r c = search needs
@@ -41,15 +39,11 @@ loop-less : tie.Need-loop-less Inv-loop μ-loop
 loop-less c = search needs
 
 loop-again : tie.Need-loop-again Inv-loop μ-loop
-loop-again c =
-    let l = c .before .before .before .before .loop in
-    left-on _ At Nowhere tells 8 _ (l .i) (l .inv) _ (omega arith) _ (c .before .is-named .ensures) (c .if2 .left)
+loop-again c = left-on _ At Nowhere tells 8 _ _ (c .before .before .before .before .loop .inv) _ (omega arith) _ (c .before .is-named .ensures) (c .if2 .left)
 
 returns-2 : tie.Need-returns-2 Inv-loop μ-loop
 unfolding found
-returns-2 c =
-    let l = c .before .before .before .before .loop in
-    left-here _ At Nowhere tells 8 _ (l .i) (l .inv) _ (omega arith) _ (c .before .is-named .ensures) (c .if2 .taken)
+returns-2 c = left-here _ At Nowhere tells 8 _ _ (c .before .before .before .before .loop .inv) _ (omega arith) _ (c .before .is-named .ensures) (c .if2 .taken)
 
 pub find-spec : {M : Type 1} → statement M
 find-spec =

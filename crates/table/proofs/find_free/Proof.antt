@@ -22,9 +22,7 @@ loop-holds c = (search needs, search needs, refl)
 
 returns : tie.Need-returns Inv-loop μ-loop
 unfolding lowestFree
-returns c =
-    let l = c .before .loop in
-    left-none _ At Nowhere tells 8 _ (l .i) (l .inv) (omega arith)
+returns c = left-none _ At Nowhere tells 8 _ _ (c .before .loop .inv) (omega arith)
 
 mul-if2 : tie.Need-mul-if2 Inv-loop μ-loop
 mul-if2 c = search needs
@@ -39,15 +37,11 @@ loop-less : tie.Need-loop-less Inv-loop μ-loop
 loop-less c = search needs
 
 loop-again : tie.Need-loop-again Inv-loop μ-loop
-loop-again c =
-    let l = c .before .before .loop in
-    left-on isFree At Nowhere tells 8 _ (l .i) (l .inv) (blank []) (omega arith) _ refl (search needs)
+loop-again c = left-on isFree At Nowhere tells 8 _ _ (c .before .before .loop .inv) (blank []) (omega arith) _ refl (search needs)
 
 returns-2 : tie.Need-returns-2 Inv-loop μ-loop
 unfolding lowestFree
-returns-2 c =
-    let l = c .before .before .loop in
-    left-here isFree At Nowhere tells 8 _ (l .i) (l .inv) (blank []) (omega arith) _ refl (search needs)
+returns-2 c = left-here isFree At Nowhere tells 8 _ _ (c .before .before .loop .inv) (blank []) (omega arith) _ refl (search needs)
 
 pub find-free-spec : {M : Type 1} → statement M
 find-free-spec =

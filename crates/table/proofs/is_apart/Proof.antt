@@ -1,5 +1,5 @@
-use borrow.Author.Tests.{not-false}
 -- `is_apart` meets its contract. The loop's invariant: the records that are left decide. Assumes nothing.
+use borrow.Author.Tests.{not-false}
 use borrow.Author.Needs.{needs}
 use Prim.Native.Nat.{_≤_, _-_}
 use mathlib.Core.Path.{_≡_, refl}

@@ -21,9 +21,7 @@ loop-holds c = (search needs, search needs, refl)
 
 returns : tie.Need-returns Inv-loop μ-loop
 unfolding lowestFree
-returns c =
-    let l = c .before .loop in
-    left-none _ At Nowhere tells 4 _ (l .i) (l .inv) (omega arith)
+returns c = left-none _ At Nowhere tells 4 _ _ (c .before .loop .inv) (omega arith)
 
 mul-if2 : tie.Need-mul-if2 Inv-loop μ-loop
 mul-if2 c = search needs
@@ -38,15 +36,11 @@ loop-less : tie.Need-loop-less Inv-loop μ-loop
 loop-less c = search needs
 
 loop-again : tie.Need-loop-again Inv-loop μ-loop
-loop-again c =
-    let l = c .before .before .loop in
-    left-on isFree At Nowhere tells 4 _ (l .i) (l .inv) _ (omega arith) _ refl (c .if2 .left)
+loop-again c = left-on isFree At Nowhere tells 4 _ _ (c .before .before .loop .inv) _ (omega arith) _ refl (c .if2 .left)
 
 returns-2 : tie.Need-returns-2 Inv-loop μ-loop
 unfolding lowestFree
-returns-2 c =
-    let l = c .before .before .loop in
-    left-here isFree At Nowhere tells 4 _ (l .i) (l .inv) _ (omega arith) _ refl (c .if2 .taken)
+returns-2 c = left-here isFree At Nowhere tells 4 _ _ (c .before .before .loop .inv) _ (omega arith) _ refl (c .if2 .taken)
 
 pub lowest-free-spec : {M : Type 1} → statement M
 lowest-free-spec =
