@@ -1,7 +1,10 @@
 /* plain.c: the five calls as one writes them in C without a proof. It is the yardstick for the library's speed, so it does the same work
  * for the same answers and uses nothing that a compiler would not be trusted with. */
+#define _DEFAULT_SOURCE /* htobe16 */
+
 #include "plain.h"
 
+#include <endian.h>
 #include <stdbool.h>
 #include <string.h>
 
@@ -9,71 +12,86 @@
 
 enum { FLAG_L = 0x80, FLAG_V = 0x40, FLAG_H = 0x20, FLAG_D = 0x10, FIRST_FLAGS = FLAG_V | FLAG_H | FLAG_D };
 
-/* Reads the PDU at *at, which lies inside the block. If it is whole, *message goes from the message before it to its own, and *at goes
- * behind it; if it is malformed, false. */
-static inline bool read_pdu(const uint8_t *block, size_t block_length, size_t *at, sdt_found *message)
+/* The first PDU takes nothing over: it has V, H and D. */
+static inline bool begins_well(const uint8_t *block, size_t block_length)
 {
-    const uint8_t *pdu = block + *at;
-    size_t left = block_length - *at;
-    uint8_t flags = pdu[0];
+    return block_length == 0 || (block[0] & FIRST_FLAGS) == FIRST_FLAGS;
+}
 
-    if (*at == 0 && (flags & FIRST_FLAGS) != FIRST_FLAGS)
-        return false;
-
-    size_t head = flags & FLAG_L ? 3 : 2;
-    if (left < head)
-        return false;
-    size_t size = (size_t)(flags & 0x0F) << 8 | pdu[1];
-    if (flags & FLAG_L)
+/* Reads the PDU at offset `at`, which has `left` octets up to the block's end, and gives its length, or 0 if it is malformed. *message goes
+ * from the message before it to its own. */
+static inline size_t read_pdu(const uint8_t *pdu, size_t left, size_t at, sdt_found *message)
+{
+    if (left < 2)
+        return 0;
+    unsigned flags = pdu[0];
+    size_t fields = 2;
+    size_t size = (flags & 0x0F) << 8 | pdu[1];
+    if (flags & FLAG_L) {
+        if (left < 3)
+            return 0;
         size = size << 8 | pdu[2];
-
-    size_t fields = flags & FLAG_V ? head + 1 : head;
-    if (size < fields || size > left)
-        return false;
-    if (!(flags & FLAG_D) && size > fields)
-        return false;
-
-    if (flags & FLAG_V)
-        message->vector = *at + head;
-    if (flags & FLAG_D) {
-        message->data = *at + fields;
-        message->length = size - fields;
+        fields = 3;
     }
-    *at += size;
-    return true;
+    if (flags & FLAG_V)
+        message->vector = at + fields++;
+    if (size < fields || size > left)
+        return 0;
+    if (flags & FLAG_D) {
+        message->data = at + fields;
+        message->length = size - fields;
+    } else if (size > fields) {
+        return 0;
+    }
+    return size;
+}
+
+/* Counts the PDUs from *at on. *at goes behind the last of them: to the block's end, or to the first malformed PDU. */
+static inline size_t pass_pdus(const uint8_t *block, size_t block_length, size_t *at)
+{
+    sdt_found message;
+    size_t size, count = 0;
+
+    for (; *at < block_length && (size = read_pdu(block + *at, block_length - *at, *at, &message)) > 0; *at += size)
+        count++;
+    return count;
 }
 
 sdt_block_answer plain_read_block(const uint8_t *block, size_t block_length, uint32_t position)
 {
     if (block_length > SDT_MAX_BLOCK)
         return (sdt_block_answer){.outcome = SDT_WRONG_SIZE};
+    if (!begins_well(block, block_length))
+        return (sdt_block_answer){.outcome = SDT_MALFORMED};
 
-    sdt_block_answer answer = {.outcome = SDT_FEWER};
     sdt_found message = {0};
     size_t at = 0;
-    for (size_t count = 0; at < block_length; count++) {
-        if (!read_pdu(block, block_length, &at, &message))
+    do {
+        if (at == block_length)
+            return (sdt_block_answer){.outcome = SDT_FEWER};
+        size_t size = read_pdu(block + at, block_length - at, at, &message);
+        if (size == 0)
             return (sdt_block_answer){.outcome = SDT_MALFORMED, .bad = at};
-        if (count == position) {
-            answer.outcome = SDT_OK;
-            answer.found = message;
-        }
-    }
-    return answer;
+        at += size;
+    } while (position-- > 0);
+
+    pass_pdus(block, block_length, &at);
+    if (at < block_length)
+        return (sdt_block_answer){.outcome = SDT_MALFORMED, .bad = at};
+    return (sdt_block_answer){.outcome = SDT_OK, .found = message};
 }
 
 sdt_open_answer plain_open_block(const uint8_t *block, size_t block_length)
 {
     if (block_length > SDT_MAX_BLOCK)
         return (sdt_open_answer){.outcome = SDT_WRONG_SIZE};
+    if (!begins_well(block, block_length))
+        return (sdt_open_answer){.outcome = SDT_MALFORMED};
 
-    sdt_found message = {0};
     size_t at = 0;
-    size_t count = 0;
-    for (; at < block_length; count++) {
-        if (!read_pdu(block, block_length, &at, &message))
-            return (sdt_open_answer){.outcome = SDT_MALFORMED, .bad = at};
-    }
+    size_t count = pass_pdus(block, block_length, &at);
+    if (at < block_length)
+        return (sdt_open_answer){.outcome = SDT_MALFORMED, .bad = at};
     return (sdt_open_answer){.outcome = SDT_OK, .count = count};
 }
 
@@ -90,19 +108,20 @@ static bool may_be_of(size_t block_length, const sdt_cursor *cursor)
 
 sdt_next_answer plain_next_message(const uint8_t *block, size_t block_length, sdt_cursor cursor)
 {
-    sdt_next_answer answer = {.cursor = cursor};
+    size_t at = cursor.next;
 
-    if (!may_be_of(block_length, &cursor)) {
-        answer.outcome = SDT_ASTRAY;
-    } else if (cursor.next == block_length) {
-        answer.outcome = SDT_FEWER;
-    } else if (!read_pdu(block, block_length, &cursor.next, &cursor.before)) {
-        answer.outcome = SDT_ASTRAY;
-    } else {
-        answer.found = cursor.before;
-        answer.cursor = cursor;
-    }
-    return answer;
+    if (!may_be_of(block_length, &cursor))
+        return (sdt_next_answer){.outcome = SDT_ASTRAY, .cursor = cursor};
+    if (at == block_length)
+        return (sdt_next_answer){.outcome = SDT_FEWER, .cursor = cursor};
+    if (at == 0 && !begins_well(block, block_length))
+        return (sdt_next_answer){.outcome = SDT_ASTRAY, .cursor = cursor};
+
+    sdt_found message = cursor.before;
+    size_t size = read_pdu(block + at, block_length - at, at, &message);
+    if (size == 0)
+        return (sdt_next_answer){.outcome = SDT_ASTRAY, .cursor = cursor};
+    return (sdt_next_answer){.outcome = SDT_OK, .found = message, .cursor = {.next = at + size, .before = message}};
 }
 
 /* ---- reading a message ---- */
@@ -139,119 +158,113 @@ static inline sdt_cid get_cid(const uint8_t *at)
     return (sdt_cid){.high = get64(at), .low = get64(at + 8)};
 }
 
+static const sdt_message_answer unreadable = {.outcome = SDT_UNREADABLE};
+
 /* The 24 octets with which Join Accept, Join Refuse, Leaving and NAK begin. */
-static void get_member(sdt_message *m, const uint8_t *data)
+static inline sdt_message_answer read_member(uint8_t vector, const uint8_t *data)
 {
-    m->subject.cid = get_cid(data);
-    m->subject.channel = get16(data + 16);
-    m->subject.mid = get16(data + 18);
-    m->subject.reliable = get32(data + 20);
+    sdt_message_answer answer = {.message.vector = vector};
+
+    answer.message.subject.cid = get_cid(data);
+    answer.message.subject.channel = get16(data + 16);
+    answer.message.subject.mid = get16(data + 18);
+    answer.message.subject.reliable = get32(data + 20);
+    return answer;
 }
 
-static void get_wrapper(sdt_message *m, const uint8_t *data)
+static inline sdt_message_answer read_wrapper(uint8_t vector, const uint8_t *data)
 {
-    m->subject.channel = get16(data);
-    m->order.total = get32(data + 2);
-    m->subject.reliable = get32(data + 6);
-    m->order.oldest = get32(data + 10);
-    m->order.first = get16(data + 14);
-    m->order.last = get16(data + 16);
-    m->order.threshold = get16(data + 18);
+    sdt_message_answer answer = {.message.vector = vector};
+
+    answer.message.subject.channel = get16(data);
+    answer.message.order.total = get32(data + 2);
+    answer.message.subject.reliable = get32(data + 6);
+    answer.message.order.oldest = get32(data + 10);
+    answer.message.order.first = get16(data + 14);
+    answer.message.order.last = get16(data + 16);
+    answer.message.order.threshold = get16(data + 18);
+    return answer;
 }
 
-static void get_parameters(sdt_message *m, const uint8_t *at)
-{
-    m->parameters.expiry = at[0];
-    m->parameters.flags = at[1];
-    m->parameters.holdoff = get16(at + 2);
-    m->parameters.modulus = get16(at + 4);
-    m->parameters.maxwait = get16(at + 6);
-    m->parameters.adhoc = at[8];
-}
-
-static bool get_join(sdt_message *m, const uint8_t *data, size_t length)
+/* A Join with a null or an IPv4 address has one length; with another address type 31 octets are enough. */
+static inline bool is_join_length(const uint8_t *data, size_t length)
 {
     if (length <= JOIN_FIXED_LENGTH)
         return false;
-    uint8_t type = data[30];
-    if ((type == SDT_ADDRESS_NULL && length != JOIN_NULL_LENGTH) || (type == SDT_ADDRESS_IPV4 && length != JOIN_IPV4_LENGTH))
-        return false;
-
-    m->subject.cid = get_cid(data);
-    m->subject.mid = get16(data + 16);
-    m->subject.channel = get16(data + 18);
-    m->reciprocal = get16(data + 20);
-    m->order.total = get32(data + 22);
-    m->subject.reliable = get32(data + 26);
-    m->destination.type = type;
-    if (type == SDT_ADDRESS_NULL) {
-        get_parameters(m, data + 31);
-    } else if (type == SDT_ADDRESS_IPV4) {
-        m->destination.port = get16(data + 31);
-        m->destination.host = get32(data + 33);
-        get_parameters(m, data + 37);
-    }
-    return true;
+    if (data[30] == SDT_ADDRESS_NULL)
+        return length == JOIN_NULL_LENGTH;
+    return data[30] != SDT_ADDRESS_IPV4 || length == JOIN_IPV4_LENGTH;
 }
 
-/* Fills the fields of the message; false if its data cannot be that of this vector. */
-static bool get_message(sdt_message *m, uint8_t vector, const uint8_t *data, size_t length)
+static inline sdt_message_answer read_join(const uint8_t *data)
 {
-    switch (vector) {
-    case SDT_RELIABLE_WRAPPER:
-    case SDT_UNRELIABLE_WRAPPER:
-        if (length < WRAPPER_LENGTH)
-            return false;
-        get_wrapper(m, data);
-        break;
-    case SDT_JOIN:
-        if (!get_join(m, data, length))
-            return false;
-        break;
-    case SDT_JOIN_REFUSE:
-    case SDT_LEAVING:
-        if (length != REFUSE_LENGTH)
-            return false;
-        get_member(m, data);
-        m->reason = data[24];
-        break;
-    case SDT_JOIN_ACCEPT:
-        if (length != ACCEPT_LENGTH)
-            return false;
-        get_member(m, data);
-        m->reciprocal = get16(data + 24);
-        break;
-    case SDT_NAK:
-        if (length != NAK_LENGTH)
-            return false;
-        get_member(m, data);
-        m->missed.first = get32(data + 24);
-        m->missed.last = get32(data + 28);
-        break;
-    case SDT_ACK:
-        if (length != ACK_LENGTH)
-            return false;
-        m->subject.reliable = get32(data);
-        break;
-    case SDT_GET_SESSIONS:
-        if (length != GET_SESSIONS_LENGTH)
-            return false;
-        m->subject.cid = get_cid(data);
-        break;
-    default:
-        return false;
+    sdt_message_answer answer = {.message.vector = SDT_JOIN};
+    const uint8_t *parameters = data + 31;
+
+    answer.message.subject.cid = get_cid(data);
+    answer.message.subject.mid = get16(data + 16);
+    answer.message.subject.channel = get16(data + 18);
+    answer.message.reciprocal = get16(data + 20);
+    answer.message.order.total = get32(data + 22);
+    answer.message.subject.reliable = get32(data + 26);
+    answer.message.destination.type = data[30];
+    if (data[30] > SDT_ADDRESS_IPV4)
+        return answer;
+    if (data[30] == SDT_ADDRESS_IPV4) {
+        answer.message.destination.port = get16(data + 31);
+        answer.message.destination.host = get32(data + 33);
+        parameters = data + 37;
     }
-    m->vector = vector;
-    return true;
+    answer.message.parameters.expiry = parameters[0];
+    answer.message.parameters.flags = parameters[1];
+    answer.message.parameters.holdoff = get16(parameters + 2);
+    answer.message.parameters.modulus = get16(parameters + 4);
+    answer.message.parameters.maxwait = get16(parameters + 6);
+    answer.message.parameters.adhoc = parameters[8];
+    return answer;
 }
 
 sdt_message_answer plain_read_message(uint8_t vector, const uint8_t *data, size_t data_length)
 {
-    sdt_message_answer answer = {0};
+    sdt_message_answer answer;
 
-    if (!get_message(&answer.message, vector, data, data_length))
-        answer.outcome = SDT_UNREADABLE;
-    return answer;
+    switch (vector) {
+    case SDT_RELIABLE_WRAPPER:
+    case SDT_UNRELIABLE_WRAPPER:
+        return data_length < WRAPPER_LENGTH ? unreadable : read_wrapper(vector, data);
+    case SDT_JOIN:
+        return is_join_length(data, data_length) ? read_join(data) : unreadable;
+    case SDT_JOIN_REFUSE:
+    case SDT_LEAVING:
+        if (data_length != REFUSE_LENGTH)
+            return unreadable;
+        answer = read_member(vector, data);
+        answer.message.reason = data[24];
+        return answer;
+    case SDT_JOIN_ACCEPT:
+        if (data_length != ACCEPT_LENGTH)
+            return unreadable;
+        answer = read_member(vector, data);
+        answer.message.reciprocal = get16(data + 24);
+        return answer;
+    case SDT_NAK:
+        if (data_length != NAK_LENGTH)
+            return unreadable;
+        answer = read_member(vector, data);
+        answer.message.missed.first = get32(data + 24);
+        answer.message.missed.last = get32(data + 28);
+        return answer;
+    case SDT_ACK:
+        if (data_length != ACK_LENGTH)
+            return unreadable;
+        return (sdt_message_answer){.message = {.vector = vector, .subject.reliable = get32(data)}};
+    case SDT_GET_SESSIONS:
+        if (data_length != GET_SESSIONS_LENGTH)
+            return unreadable;
+        return (sdt_message_answer){.message = {.vector = vector, .subject.cid = get_cid(data)}};
+    default:
+        return unreadable;
+    }
 }
 
 /* ---- writing a message ---- */
@@ -266,23 +279,23 @@ static inline uint8_t *put8(uint8_t *at, uint8_t n)
 
 static inline uint8_t *put16(uint8_t *at, uint16_t n)
 {
-    at[0] = (uint8_t)(n >> 8);
-    at[1] = (uint8_t)n;
+    n = htobe16(n);
+    memcpy(at, &n, 2);
     return at + 2;
 }
 
 static inline uint8_t *put32(uint8_t *at, uint32_t n)
 {
-    at[0] = (uint8_t)(n >> 24);
-    at[1] = (uint8_t)(n >> 16);
-    at[2] = (uint8_t)(n >> 8);
-    at[3] = (uint8_t)n;
+    n = htobe32(n);
+    memcpy(at, &n, 4);
     return at + 4;
 }
 
 static inline uint8_t *put64(uint8_t *at, uint64_t n)
 {
-    return put32(put32(at, (uint32_t)(n >> 32)), (uint32_t)n);
+    n = htobe64(n);
+    memcpy(at, &n, 8);
+    return at + 8;
 }
 
 static inline uint8_t *put_cid(uint8_t *at, sdt_cid cid)

@@ -1,5 +1,7 @@
 /* sdt.h: reading and writing messages of ANSI E1.17 SDT (Session Data Transport), for the member side.
  *
+ * The archive that belongs to this header, libsdt.a, is machine code for x86-64 with the System V calling convention, as on Linux.
+ *
  * What is promised of every function here, for every input:
  *  - It returns. It reads only the octets that you lend it, and writes only the room that you lend it.
  *  - Nothing is kept between calls, nothing is allocated, nothing is printed. Calls from several threads do not disturb each other.
@@ -8,10 +10,12 @@
  * These promises, and what each answer is, are proved of the library's source; README.md says what the proofs rest on.
  *
  * What the caller owes, since C cannot check it:
- *  - `length` octets are readable behind a pointer (and writable behind `room`). With length 0 the pointer is not followed: NULL is fine.
+ *  - A pointer to octets points to as many as the length behind it says, and those of `room` are writable. No alignment is needed. If the
+ *    length is 0, the pointer is not dereferenced, so it may be NULL.
  *  - `room` overlaps no other argument.
  *
- * An answer is a struct whose first field, `outcome`, is one of the SDT_ numbers below. Fields that an outcome does not speak of are 0.
+ * An answer is a struct whose first field, `outcome`, is one of the outcomes below. Unless its comment says otherwise, a field that belongs
+ * to another outcome is 0. Offsets count from the first octet of the block, which has offset 0.
  */
 #ifndef SDT_H
 #define SDT_H
@@ -29,7 +33,7 @@ extern "C" {
 #define SDT_WRONG_SIZE 1u     /* refused: a block over SDT_MAX_BLOCK octets, or a room shorter than the message */
 #define SDT_UNREADABLE 4u     /* refused: no message of ours, or its data has a length or an address form that it cannot have */
 #define SDT_CONTENTS_OVER 7u  /* refused: wrapper contents over SDT_MAX_CONTENTS octets */
-#define SDT_MALFORMED 11u     /* refused: a PDU of the block is malformed; `bad` is the place where the first such begins */
+#define SDT_MALFORMED 11u     /* refused: a PDU of the block is malformed; `bad` is the offset where the first such PDU begins */
 #define SDT_FEWER 100u        /* the block has fewer messages, or no further one */
 #define SDT_ASTRAY 101u       /* the cursor cannot be one of this block's */
 
@@ -38,53 +42,56 @@ extern "C" {
 #define SDT_MAX_BLOCK 65535u    /* octets of a block */
 #define SDT_MAX_CONTENTS 1454u  /* octets of a wrapper's contents */
 #define SDT_MAX_MESSAGE 1477u   /* octets of the longest message that is written: a wrapper with all contents */
-#define SDT_WRAPPER_FIELDS 20u  /* a wrapper's contents are its data from this place on */
+#define SDT_WRAPPER_FIELDS 20u  /* octets of a wrapper's own fields: its contents are the data from this offset of the data on */
 
 /* ---- reading a block ---- */
 
-/* A message within a block: the place of its vector (one octet), and the place and length of its data. All lie inside the block. */
+/* A message within a block, by offsets. In every answer with SDT_OK, vector < block_length and data + length <= block_length.
+ * Several messages of a block may share octets: a PDU with flag V clear has the vector of the PDU before it, and one with D clear its data. */
 typedef struct {
-    size_t vector;
-    size_t data;
-    size_t length;
+    size_t vector; /* the offset of its vector, which is one octet */
+    size_t data;   /* the offset of its data */
+    size_t length; /* how many octets of data it has; 0 is possible */
 } sdt_found;
 
 typedef struct {
     uint32_t outcome; /* SDT_OK, SDT_FEWER, SDT_WRONG_SIZE or SDT_MALFORMED */
     sdt_found found;  /* with SDT_OK: the message */
-    size_t bad;       /* with SDT_MALFORMED: where the first malformed PDU begins */
+    size_t bad;       /* with SDT_MALFORMED: the offset where the first malformed PDU begins; bad < block_length */
 } sdt_block_answer;
 
-/* The message at `position` of a block, counted from 0. Every PDU of the block is judged, whichever message is asked for, so a block with
- * a malformed PDU anywhere is refused. Reading all of a large block this way reads it once per message: use the pair below for that. */
+/* The message at `position` of a block, counted from 0. Every PDU of the block is checked, whichever message is asked for, so a block with
+ * a malformed PDU anywhere is refused. To read all messages of a block, use sdt_open_block and sdt_next_message: this call passes over the
+ * whole block each time. */
 sdt_block_answer sdt_read_block(const uint8_t *block, size_t block_length, uint32_t position);
 
 /* Where reading a block goes on. Take it from an answer and hand it back as it is. */
 typedef struct {
-    size_t next;      /* the place of the next PDU */
-    sdt_found before; /* the message before it */
+    size_t next;      /* the offset of the next PDU; next <= block_length */
+    sdt_found before; /* the message before that PDU, from which it may take its vector or its data */
 } sdt_cursor;
 
 typedef struct {
     uint32_t outcome;  /* SDT_OK, SDT_WRONG_SIZE or SDT_MALFORMED */
     size_t count;      /* with SDT_OK: how many messages the block has; 0 is possible */
     sdt_cursor cursor; /* with SDT_OK: the cursor before the first message */
-    size_t bad;        /* with SDT_MALFORMED: where the first malformed PDU begins */
+    size_t bad;        /* with SDT_MALFORMED: the offset where the first malformed PDU begins; bad < block_length */
 } sdt_open_answer;
 
-/* Judges a whole block once. */
+/* Checks every PDU of a block once, and counts its messages. */
 sdt_open_answer sdt_open_block(const uint8_t *block, size_t block_length);
 
 typedef struct {
     uint32_t outcome;  /* SDT_OK, SDT_FEWER or SDT_ASTRAY */
     sdt_found found;   /* with SDT_OK: the message */
-    sdt_cursor cursor; /* with SDT_OK: the cursor behind it; else the cursor that was given */
+    sdt_cursor cursor; /* with SDT_OK: the cursor behind that message; with any other outcome: the cursor that was given */
 } sdt_next_answer;
 
 /* The message behind a cursor. From the cursor of sdt_open_block on, the calls give what sdt_read_block gives for positions 0, 1, 2, ..
- * of the same block, at the cost of one pass. Any cursor is safe. One that cannot be of this block is answered SDT_ASTRAY: it lies past the
- * end, or the message before it does not lie before it, or no PDU begins there, or the block is over SDT_MAX_BLOCK octets. Any other cursor
- * is taken at its word, but what it is answered lies inside the block. With every SDT_OK the cursor moves on, so a loop over it ends. */
+ * of the same block, at the cost of one pass. Any cursor is safe. One that cannot belong to this block is answered SDT_ASTRAY: its `next` is
+ * past the end, or its `before` does not lie before `next`, or no well-formed PDU begins at `next`, or the block is over SDT_MAX_BLOCK
+ * octets. Any other cursor is taken at its word, and what is answered still lies inside the block. With every SDT_OK the cursor moves on,
+ * so a loop over it ends. */
 sdt_next_answer sdt_next_message(const uint8_t *block, size_t block_length, sdt_cursor cursor);
 
 /* ---- messages ---- */
@@ -166,17 +173,17 @@ typedef struct {
 } sdt_message;
 
 typedef struct {
-    uint32_t outcome; /* SDT_OK or SDT_UNREADABLE */
-    sdt_message message;
+    uint32_t outcome;    /* SDT_OK or SDT_UNREADABLE */
+    sdt_message message; /* with SDT_OK: the message; with SDT_UNREADABLE every field is 0 */
 } sdt_message_answer;
 
 /* Reads a message from its vector and data, as sdt_read_block finds them: sdt_read_message(block[f.vector], block + f.data, f.length).
- * Of a Join with an address type other than null and IPv4, 31 octets are looked at. A wrapper's contents are not copied: they are the data
- * from SDT_WRAPPER_FIELDS on. */
+ * Of a Join with an address type other than null and IPv4 only the first 31 octets are looked at. A wrapper's contents are not copied: they
+ * are the data from offset SDT_WRAPPER_FIELDS of the data on. */
 sdt_message_answer sdt_read_message(uint8_t vector, const uint8_t *data, size_t data_length);
 
 typedef struct {
-    uint32_t outcome; /* SDT_OK, or refused, checked in this order: SDT_UNREADABLE, SDT_WRONG_SIZE, SDT_CONTENTS_OVER */
+    uint32_t outcome; /* SDT_OK, or a refusal, checked in this order: SDT_UNREADABLE, SDT_WRONG_SIZE, SDT_CONTENTS_OVER */
     size_t length;    /* with SDT_OK: how many octets were written */
 } sdt_write_answer;
 

@@ -1,75 +1,94 @@
--- The code's table of data lengths against `lengthOf`, which looks in the rows of 01: at each of its places by one computed test, and beyond
--- them because no row lies there. Assumes nothing.
-use Prim.Native.Nat.{ℕ, _+_, _*_, _<_, _≤_, suc-le-suc}
+-- The search of the code in the table of data lengths against `lengthOf`, which looks in the same rows: what is left of the rows decides, as
+-- long as none of those passed was it. Assumes nothing.
+use Prim.Native.Nat.{ℕ, suc, _+_, _<_, _≤_}
+use native.Mathlib.Numerals.{add-one}
 use native.Mathlib.Omega.{arith}
-use mathlib.Core.Path.{_≡_, refl}
-use mathlib.Core.Logic.{_≢_, _⊎_, ⊎-elim}
-use mathlib.Core.Bool.{Bool, true, false, _&&_, and-eq-true-iff, and-false}
+use mathlib.Core.Path.{_≡_, refl, sym, ap, _∙_}
+use mathlib.Core.Logic.{_≢_}
+use mathlib.Core.Bool.{Bool, true, false, cond, _&&_, and-eq-true-iff, and-false}
 use mathlib.Core.List.{List, [], _∷_}
-use lib.ListN.{getD}
+use lib.ListN.{length, getD, drop}
+use lib.Seq.{drop-cons, drop-length}
 use lib.Dec.{eqb, leb, ltb}
-use mir.Syntax.{w64}
-use mir.Val.{Fits}
-use borrow.Author.Tests.{eqb-true, leb-true, ltb-true, ne-eqb}
-use Rattle.message.specs.Lengths.{join, joinAccept, joinRefuse, leaving, nak, getSessions, ack, reliableWrapper, unreliableWrapper, null, Row, rows, look, lengthOf}
+use borrow.Author.Tests.{leb-true, ltb-true, eq-eqb, ne-eqb}
+use Rattle.message.specs.Lengths.{join, joinAccept, joinRefuse, leaving, nak, getSessions, ack, reliableWrapper, unreliableWrapper, null, Row, rows, lengthIn, look, lengthOf}
 use Rattle.message.proofs.Table.{below, at}
 
--- what the code's table has for this vector and address
-abbrev entry : List ℕ → ℕ → ℕ → ℕ
-entry table v a = getD table (v + 17 * a) 0
+-- ---- one row
 
-abbrev right : List ℕ → ℕ → ℕ → Bool
-right table v a = eqb (entry table v a) (lengthOf v a)
+module _ (r : Row) (v a : ℕ) where
+  pub other-vector : v ≢ r .vector → 0 ≡ lengthIn r v a
+  other-vector n = rw (ne-eqb v (r .vector) n)
 
-abbrev low : List ℕ → ℕ → ℕ → Bool
-low table v a = leb (entry table v a) 46
+  pub other-address : a ≢ r .address → 0 ≡ lengthIn r v a
+  other-address n = rw (ne-eqb a (r .address) n, and-false)
 
--- the test passes at every place of the table
-abbrev everywhere : (ℕ → ℕ → Bool) → Bool
-everywhere f = below (λ v. below (f v) 2) 17
+  pub this-row : v ≡ r .vector → a ≡ r .address → r .len ≡ lengthIn r v a
+  this-row e f = rw (eq-eqb v (r .vector) e, eq-eqb a (r .address) f)
 
-module _ (table : List ℕ) (v a : ℕ) (hv : v ≤ 16) (ha : a ≤ 1) where
-  anywhere : (f : ℕ → ℕ → Bool) → everywhere f ≡ true → f v a ≡ true
-  anywhere f t = at (f v) 2 (at (λ u. below (f u) 2) 17 t v (suc-le-suc hv)) a (suc-le-suc ha)
+pub ruleset one-row = (other-vector, other-address, this-row)
 
-  pub rule : everywhere (right table) ≡ true → entry table v a ≡ lengthOf v a
-  rule t = eqb-true (entry table v a) (lengthOf v a) (anywhere (right table) t)
+-- ---- the rows in turn
 
-  pub small : everywhere (low table) ≡ true → entry table v a ≤ 46
-  small t = leb-true (entry table v a) 46 (anywhere (low table) t)
+-- the value of a row past the last
+abbrev blank : Row
+blank = record { vector = 0; address = 0; len = 0 }
 
-  pub castable : everywhere (low table) ≡ true → Fits w64 (entry table v a)
-  castable t = record { fits = omega (arith, small t) }
+-- every row has a length, of at most 46 octets
+abbrev sized : ℕ → Bool
+sized i = ltb 0 (getD rows i blank .len) && leb (getD rows i blank .len) 46
 
--- this vector and address lie beyond the table
-abbrev Beyond : ℕ → ℕ → Type 0
-Beyond v a = (16 < v) ⊎ (1 < a)
+sizes : (i : ℕ) → i < 10 → (0 < getD rows i blank .len) × (getD rows i blank .len ≤ 46)
+sizes i h =
+    let p = and-eq-true-iff (ltb 0 (getD rows i blank .len)) (leb (getD rows i blank .len) 46) .0 (at sized 10 refl i h) in
+    (ltb-true 0 _ (p .0), leb-true _ 46 (p .1))
 
--- every row is that of a place of the table
-within : List Row → Bool
-within [] = true
-within (r ∷ rs) = ltb (r .vector) 17 && ltb (r .address) 2 && within rs
+-- whether a row is the one or not: what the rest decides, k, and what the row itself gives, n
+found : (t : Bool) (k len n rest : ℕ) → k ≡ cond t len rest → n ≡ cond t len 0 → n ≢ 0 → (n ≡ k) × (n ≤ len)
+found true k len n rest e f z = (f ∙ sym e, omega arith)
+found false k len n rest e f z = absurd (z f)
 
-missed : (r : Row) (v a : ℕ) → Beyond v a → (ltb (r .vector) 17 && ltb (r .address) 2) ≡ true → (eqb v (r .vector) && eqb a (r .address)) ≡ false
-missed r v a o t =
-    let p = and-eq-true-iff (ltb (r .vector) 17) (ltb (r .address) 2) .0 t in
-    let hv = ltb-true (r .vector) 17 (p .0) in
-    let ha = ltb-true (r .address) 2 (p .1) in
-    ⊎-elim
-    (λ l. rw (ne-eqb v (r .vector) (λ e. omega arith)))
-    (λ l. rw (ne-eqb a (r .address) (λ e. omega arith), and-false))
-    o
+missed : (t : Bool) (k len rest : ℕ) → k ≡ cond t len rest → 0 ≡ cond t len 0 → 0 < len → k ≡ rest
+missed true k len rest e f z = absurd (omega arith)
+missed false k len rest e f z = e
 
-none : (rs : List Row) (v a : ℕ) → Beyond v a → within rs ≡ true → look rs v a ≡ 0
-unfolding look within
-none [] v a o t = refl
-none (r ∷ rs) v a o t =
-    let p = and-eq-true-iff (ltb (r .vector) 17 && ltb (r .address) 2) (within rs) .0 t in
-    rw (missed r v a o (p .0)) (none rs v a o (p .1))
+module _ (v a : ℕ) where
+  -- rs are the rows, and those from i on decide
+  pub record Left (rs : List Row) (i : ℕ) : Type 0 where
+    pub all : rs ≡ rows
+    pub rest : lengthOf v a ≡ look (drop i rows) v a
 
-pub beyond : (v a : ℕ) → Beyond v a → lengthOf v a ≡ 0
-unfolding lengthOf within
-beyond v a o = none rows v a o refl
+  pub none-passed : Left rows 0
+  unfolding lengthOf
+  none-passed = record { all = refl; rest = refl }
+
+  module _ (rs : List Row) (i : ℕ) (l : Left rs i) where
+    pub all-passed : i ≤ 10 → 10 ≤ i → (0 ≡ lengthOf v a) × (0 ≤ 46)
+    unfolding look
+    all-passed h n = let e : i ≡ 10 = omega arith in (sym (l .rest ∙ ap (λ (j : ℕ). look (drop j rows) v a) e), omega arith)
+
+    module _ (h : i < 10) where
+      abbrev it : Bool
+      it = eqb v (getD rows i blank .vector) && eqb a (getD rows i blank .address)
+
+      here : lengthOf v a ≡ cond it (getD rows i blank .len) (look (drop (suc i) rows) v a)
+      unfolding look
+      here = l .rest ∙ ap (λ (xs : List Row). look xs v a) (drop-cons rows i blank h)
+
+      module _ (n : ℕ) (e : n ≡ lengthIn (getD rs i blank) v a) where
+        pub row-found : n ≢ 0 → (n ≡ lengthOf v a) × (n ≤ 46)
+        row-found z =
+            let p = found it _ _ n _ here (rw (l .all) at e) z in
+            (p .0, omega (arith, p .1, sizes i h .1))
+
+        pub row-passed : n ≡ 0 → Left rs (i + 1)
+        row-passed z =
+            record {
+              all = l .all;
+              rest = missed it _ _ _ here (sym z ∙ rw (l .all) at e) (sizes i h .0) ∙ ap (λ (j : ℕ). look (drop j rows) v a) (sym (add-one i));
+            }
+
+pub ruleset searched = (none-passed, all-passed, row-found, row-passed)
 
 -- none of the vectors of the nine messages, in the order of the rows
 abbrev pub NoneOfNine : ℕ → Type 0

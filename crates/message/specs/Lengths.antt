@@ -3,6 +3,7 @@ use Prim.Native.Nat.{ℕ}
 use mathlib.Core.Bool.{cond, _&&_}
 use mathlib.Core.List.{List, [], _∷_}
 use lib.Dec.{eqb}
+pub use Rattle.message.specs.declared.Row.{Row}
 
 -- 000, Table 3, as far as 01 takes it
 abbrev pub reliableWrapper : ℕ
@@ -39,12 +40,7 @@ null = 0
 abbrev pub ipv4 : ℕ
 ipv4 = 1
 
--- a row of the table: a vector, the type of address, and the length of the data in octets
-pub record Row : Type 0 where
-  pub vector : ℕ
-  pub address : ℕ
-  pub len : ℕ
-
+-- a row has a vector, the type of address, and the length of the data in octets
 abbrev row : ℕ → ℕ → ℕ → Row
 row v a n = record { vector = v; address = a; len = n }
 
@@ -62,6 +58,10 @@ rows =
     ∷ row reliableWrapper null 20
     ∷ row unreliableWrapper null 20
     ∷ []
+
+-- the length in this row, and 0 if it is not that of this vector and address type
+abbrev pub lengthIn : Row → ℕ → ℕ → ℕ
+lengthIn r v a = cond (eqb v (r .vector) && eqb a (r .address)) (r .len) 0
 
 -- the length in the row of this vector and address type, and 0 if there is no such row
 unfoldable pub look : List Row → ℕ → ℕ → ℕ

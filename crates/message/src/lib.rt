@@ -3,7 +3,7 @@ ghost use mathlib.Core.Path.{_≡_};
 ghost use mathlib.Core.Bool.{true};
 ghost use Prim.Native.Nat.{_+_, _≤_};
 ghost use lib.ListN.{length};
-ghost use Rattle.message.specs.Lengths.{joinRefuse, lengthOf};
+ghost use Rattle.message.specs.Lengths.{joinRefuse, lengthIn, lengthOf};
 ghost use Rattle.message.specs.Layouts.{cidAt, membershipOf, wrapperOf, parametersAt, addressOf, joinOf};
 ghost use Rattle.message.specs.Reading.{readableJoin, readable, fixedOf, messageOf};
 ghost use Rattle.message.specs.Allowed.{ReadMessageAllows};
@@ -128,58 +128,95 @@ pub const ADDRESS_NULL: u8 = 0;
 
 pub const ADDRESS_IPV4: u8 = 1;
 
-// The one table of data lengths, for reader and writer. 0: there is no such message.
-const LENGTHS: [u8; 34] = [
-    // with no address or a null one, by vector from 0 on
-    0,
-    20, // Reliable Wrapper, without its contents
-    20, // Unreliable Wrapper, without its contents
-    0,
-    40, // Join
-    25, // Join Refuse
-    26, // Join Accept
-    0,
-    25, // Leaving
-    0,
-    0,
-    0,
-    0,
-    0,
-    4, // ACK
-    32, // NAK
-    16, // Get Sessions
-    // the same with an IPv4 address
-    0,
-    0,
-    0,
-    0,
-    46, // Join
-    0,
-    0,
-    0,
-    0,
-    0,
-    0,
-    0,
-    0,
-    0,
-    0,
-    0,
-    0,
+// A row of the table: a message's vector, the type of its address (null if it has none), and the exact length of its data.
+pub struct Row {
+    pub vector: u8,
+    pub address: u8,
+    pub len: usize,
+}
+
+// The one table of data lengths, for reader and writer, in the order of 01. A wrapper's length is without its contents.
+const ROWS: [Row; 10] = [
+    Row {
+        vector: JOIN,
+        address: ADDRESS_NULL,
+        len: 40,
+    },
+    Row {
+        vector: JOIN,
+        address: ADDRESS_IPV4,
+        len: 46,
+    },
+    Row {
+        vector: JOIN_ACCEPT,
+        address: ADDRESS_NULL,
+        len: 26,
+    },
+    Row {
+        vector: JOIN_REFUSE,
+        address: ADDRESS_NULL,
+        len: 25,
+    },
+    Row {
+        vector: LEAVING,
+        address: ADDRESS_NULL,
+        len: 25,
+    },
+    Row {
+        vector: NAK,
+        address: ADDRESS_NULL,
+        len: 32,
+    },
+    Row {
+        vector: GET_SESSIONS,
+        address: ADDRESS_NULL,
+        len: 16,
+    },
+    Row {
+        vector: ACK,
+        address: ADDRESS_NULL,
+        len: 4,
+    },
+    Row {
+        vector: RELIABLE_WRAPPER,
+        address: ADDRESS_NULL,
+        len: 20,
+    },
+    Row {
+        vector: UNRELIABLE_WRAPPER,
+        address: ADDRESS_NULL,
+        len: 20,
+    },
 ];
 
-// The data length of a vector's message with an address of this type: 0 is null (or no address), 1 is IPv4.
+// The length in this row, and 0 if the row is not that of this vector and address.
+fn length_in(row: Row, vector: u8, address: u8) -> usize
+    ensures { λ r. ⌜ r ≡ lengthIn row vector address ⌝ }
+{
+    if vector != row.vector {
+        return 0;
+    }
+    if address != row.address {
+        return 0;
+    }
+    row.len
+}
+
+// The data length of a vector's message with an address of this type: 0 is null (or no address), 1 is IPv4. 0 if no row has it. The rows are
+// named once before the loop, since the compiler would else lay them out anew in each turn; so it makes a switch of the whole search.
 pub fn length_of(vector: u8, address: u8) -> usize
     ensures { λ r. ⌜ (r ≡ lengthOf vector address) × (r ≤ 46) ⌝ }
 {
-    if GET_SESSIONS < vector {
-        return 0;
+    let rows = ROWS;
+    let mut at = 0;
+    while at < 10 {
+        let len = length_in(rows[at], vector, address);
+        if len != 0 {
+            return len;
+        }
+        at += 1;
     }
-    if ADDRESS_IPV4 < address {
-        return 0;
-    }
-    let at = (vector as usize) + 17 * (address as usize);
-    LENGTHS[at] as usize
+    0
 }
 
 // Whether data is that of a Join: one with a null or an IPv4 address has its exact length, and any other its first 31 octets.

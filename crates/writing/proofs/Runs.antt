@@ -19,3 +19,8 @@ in-turn (_then_ {p = p} {at = at} {ps = ps} e r) = in-turn r ∙ ap (λ (s : Lis
 pub written : {s u xs : List ℕ} {at : ℕ} {ps : List (List ℕ)} → Run s at ps u → joined ps ≡ xs → at + length xs ≤ length s
     → u ≡ splice s at xs
 written {s = s} {at = at} {ps = ps} r e h = in-turn r ∙ run-splice ps s at (rw e h) ∙ ap (splice s at) e
+
+-- the run of two pieces
+pub two-written : (s t u p q : List ℕ) (at : ℕ) → t ≡ splice s at p → u ≡ splice t (at + length p) q → at + length (joined (p ∷ q ∷ [])) ≤ length s
+    → u ≡ splice s at (joined (p ∷ q ∷ []))
+two-written s t u p q at e f = written (e then f then done) refl

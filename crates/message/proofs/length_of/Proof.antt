@@ -1,35 +1,56 @@
--- `message::length_of` meets its contract: the table's rule at its places, and no row beyond them. Assumes nothing.
+-- `message::length_of` meets its contract. The loop's invariant: what is left of the rows decides. The measure is how many are left. Assumes nothing.
+use Prim.Native.Nat.{_-_, _≤_}
 use native.Mathlib.Omega.{arith}
-use mathlib.Core.Path.{sym}
-use mathlib.Core.Logic.{inl, inr}
 use borrow.Author.Needs.{needs}
-use Rattle.message.specs.Lengths.{lengthOf, look}
-use Rattle.message.proofs.Lengths.{rule, small, castable, beyond}
+use Rattle.message.proofs.Lengths.{Left, searched, row-found, all-passed}
 use Rattle.message.proofs.length_of.Statement.{statement}
 use Rattle.message.proofs.length_of.Tie as tie
 
-returns : tie.Need-returns
-returns c = let a = c .before .args in (sym (beyond (a .vector) (a .address) (inl (omega arith))), omega arith)
+abbrev Inv-loop : tie.InvT-loop
+Inv-loop vector address rows at₀ at = (at ≤ 10) × Left vector address rows at
 
-returns-2 : tie.Need-returns-2
-returns-2 c = let a = c .before .before .args in (sym (beyond (a .vector) (a .address) (inr (omega arith))), omega arith)
+abbrev μ-loop : tie.MeasureT-loop
+μ-loop vector address rows at₀ at = 10 - at
 
-mul-at : tie.Need-mul-at
-mul-at c = search needs
+loop-holds : tie.Need-loop-holds Inv-loop μ-loop
+loop-holds c = search (searched, needs)
 
-add-at : tie.Need-add-at
+mul-length-in : tie.Need-mul-length-in Inv-loop μ-loop
+mul-length-in c = search needs
+
+array-copy-out-length-in : tie.Need-array-copy-out-length-in Inv-loop μ-loop
+array-copy-out-length-in c = search needs
+
+length-in-requires : tie.Need-length-in-requires Inv-loop μ-loop
+length-in-requires c κs = search needs
+
+returns : tie.Need-returns Inv-loop μ-loop
+returns c = row-found _ _ _ _ (c .before .before .before .before .loop .inv .1) (omega arith) _ (c .before .length-in .ensures) (c .if1 .taken)
+
+add-at : tie.Need-add-at Inv-loop μ-loop
 add-at c = search needs
 
-array-read-result : tie.Need-array-read-result
-array-read-result c = search needs
+loop-less : tie.Need-loop-less Inv-loop μ-loop
+loop-less c = search needs
 
-cast-result : tie.Need-cast-result
-cast-result c = search castable
+loop-again : tie.Need-loop-again Inv-loop μ-loop
+loop-again c = search (searched, needs)
 
-returns-3 : tie.Need-returns-3
-unfolding lengthOf look
-returns-3 c = search (rule, small)
+returns-2 : tie.Need-returns-2 Inv-loop μ-loop
+returns-2 c = all-passed _ _ _ _ (c .before .loop .inv .1) (omega arith) (omega arith)
 
 pub length-of-spec : {M : Type 1} → statement M
 length-of-spec =
-    tie.close (tie.spec returns returns-2 mul-at add-at array-read-result cast-result returns-3)
+    tie.close
+    (tie.spec
+    Inv-loop
+    μ-loop
+    loop-holds
+    mul-length-in
+    array-copy-out-length-in
+    length-in-requires
+    returns
+    add-at
+    loop-less
+    loop-again
+    returns-2)

@@ -2,7 +2,7 @@
 use native.Mathlib.Omega.{arith}
 use Rattle.octets.specs.Octets.{octets}
 use Rattle.writing.specs.Fields.{cidOctets, membershipOctets}
-use Rattle.writing.proofs.Runs.{_then_, done, written}
+use Rattle.writing.proofs.Runs.{two-written}
 use borrow.Author.Needs.{needs}
 use Rattle.writing.proofs.put_accept.Statement.{statement}
 use Rattle.writing.proofs.put_accept.Tie as tie
@@ -22,12 +22,7 @@ same-length c = search needs
 returns : tie.Need-returns
 unfolding octets cidOctets membershipOctets
 returns c =
-    let reciprocal = c .before .before in
-    let member = reciprocal .before .before .before .before in
-    written
-    (member .put-membership .ensures then reciprocal .put-u16 .ensures then done)
-    (search)
-    (omega arith)
+    let reciprocal = c .before .before in two-written _ _ _ _ _ _ (reciprocal .before .before .before .before .put-membership .ensures) (reciprocal .put-u16 .ensures) (omega arith)
 
 pub put-accept-spec : {M : Type 1} → statement M
 put-accept-spec =

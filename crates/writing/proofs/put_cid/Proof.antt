@@ -2,7 +2,7 @@
 use native.Mathlib.Omega.{arith}
 use Rattle.octets.specs.Octets.{octets}
 use Rattle.writing.specs.Fields.{cidOctets}
-use Rattle.writing.proofs.Runs.{_then_, done, written}
+use Rattle.writing.proofs.Runs.{two-written}
 use borrow.Author.Needs.{needs}
 use Rattle.writing.proofs.put_cid.Statement.{statement}
 use Rattle.writing.proofs.put_cid.Tie as tie
@@ -22,12 +22,7 @@ same-length c = search needs
 returns : tie.Need-returns
 unfolding octets cidOctets
 returns c =
-    let low = c .before .before in
-    let high = low .before .before .before .before in
-    written
-    (high .put-u64 .ensures then low .put-u642 .ensures then done)
-    (search)
-    (omega arith)
+    let low = c .before .before in two-written _ _ _ _ _ _ (low .before .before .before .before .put-u64 .ensures) (low .put-u642 .ensures) (omega arith)
 
 pub put-cid-spec : {M : Type 1} → statement M
 put-cid-spec =

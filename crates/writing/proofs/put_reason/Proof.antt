@@ -2,7 +2,7 @@
 use native.Mathlib.Omega.{arith}
 use Rattle.octets.specs.Octets.{octets}
 use Rattle.writing.specs.Fields.{cidOctets, membershipOctets}
-use Rattle.writing.proofs.Runs.{_then_, done, written}
+use Rattle.writing.proofs.Runs.{two-written}
 use borrow.Author.Needs.{needs}
 use Rattle.writing.proofs.put_reason.Statement.{statement}
 use Rattle.writing.proofs.put_reason.Tie as tie
@@ -22,12 +22,7 @@ same-length c = search needs
 returns : tie.Need-returns
 unfolding octets cidOctets membershipOctets
 returns c =
-    let reason = c .before .before in
-    let member = reason .before .before .before .before in
-    written
-    (member .put-membership .ensures then reason .put-u8 .ensures then done)
-    (search)
-    (omega arith)
+    let reason = c .before .before in two-written _ _ _ _ _ _ (reason .before .before .before .before .put-membership .ensures) (reason .put-u8 .ensures) (omega arith)
 
 pub put-reason-spec : {M : Type 1} → statement M
 put-reason-spec =
