@@ -10,7 +10,7 @@ use lib.ListN.{length, getD}
 use lib.Dec.{ltb}
 use borrow.Author.Tests.{ltb-false, le-ltb, eq-eqb, ne-eqb}
 use Rattle.block.specs.Pdu.{pduAt}
-use Rattle.block.specs.Block.{most, nothing, Parsed, broken, messages, with, parse, messageAt, asked, readBlock}
+use Rattle.block.specs.Block.{mostBlock, nothing, Parsed, broken, messages, with, parse, messageAt, asked, readBlock}
 use Rattle.block.specs.Cursor.{start, openedOf, openBlock, nextMessage, callAt, Same}
 use Rattle.block.specs.declared.Found.{Found}
 use Rattle.block.specs.declared.Cursor.{Cursor}
@@ -57,7 +57,7 @@ with-turns s c m d (broken p) e on = tt
 with-turns s c m d (messages ms) e on = elim [ zero ↦ rw e refl | suc k ↦ rw e (on k) ]
 
 -- so it is from the start on
-turns : (s : List ℕ) → length s ≤ most → Turns s start (parse s)
+turns : (s : List ℕ) → length s ≤ mostBlock → Turns s start (parse s)
 unfolding parse messageAt
 turns s short =
     along s (λ at before p. Own (length s) (cursor at before) → Turns s (cursor at before) p)
@@ -79,10 +79,10 @@ record Listed (s : List ℕ) (n : ℕ) (c : Cursor) : Type 0 where
   parsed : parse s ≡ messages list
   counted : n ≡ length list
   first : c ≡ start
-  short : length s ≤ most
+  short : length s ≤ mostBlock
 
 module _ (s : List ℕ) {n : ℕ} {c : Cursor} where
-  of-tests : (t : Bool) (p : Parsed) → ltb most (length s) ≡ t → parse s ≡ p → cond t opened.TooLong (openedOf p) ≡ opened.Messages n c
+  of-tests : (t : Bool) (p : Parsed) → ltb mostBlock (length s) ≡ t → parse s ≡ p → cond t opened.TooLong (openedOf p) ≡ opened.Messages n c
       → Listed s n c
   unfolding openedOf
   of-tests true p l e o = let z : _≡_ {A = ℕ} 0 1 = cc in absurd (omega arith)
@@ -93,16 +93,16 @@ module _ (s : List ℕ) {n : ℕ} {c : Cursor} where
         parsed = e;
         counted = cc;
         first = cc;
-        short = ltb-false most (length s) l;
+        short = ltb-false mostBlock (length s) l;
       }
 
   listed : openBlock s ≡ opened.Messages n c → Listed s n c
   unfolding openBlock
-  listed = of-tests (ltb most (length s)) (parse s) refl refl
+  listed = of-tests (ltb mostBlock (length s)) (parse s) refl refl
 
   read-listed : (l : Listed s n c) (k : ℕ) → readBlock s k ≡ messageAt (l .list) k
   unfolding readBlock asked
-  read-listed l k = rw (le-ltb most (length s) (l .short), l .parsed)
+  read-listed l k = rw (le-ltb mostBlock (length s) (l .short), l .parsed)
 
 -- call number k with the cursor gives the message of position k
 pub in-turn : (s : List ℕ) (n : ℕ) (c : Cursor) → openBlock s ≡ opened.Messages n c → (k : ℕ) → Same (callAt k s c) (readBlock s k)
@@ -152,9 +152,9 @@ malformed-tests k false (messages ms) q = (λ e. cc, λ e. absurd (rw e at (told
 -- opening gives refusal 1 exactly if reading does, whichever message is asked for
 pub long-agrees : (s : List ℕ) (k : ℕ) → (openBlock s ≡ opened.TooLong) ↔ (readBlock s k ≡ TooLong)
 unfolding openBlock readBlock
-long-agrees s k = long-tests k (ltb most (length s)) (parse s)
+long-agrees s k = long-tests k (ltb mostBlock (length s)) (parse s)
 
 -- opening gives refusal 11 with a place exactly if reading does with that place, whichever message is asked for
 pub malformed-agrees : (s : List ℕ) (k p : ℕ) → (openBlock s ≡ opened.Malformed p) ↔ (readBlock s k ≡ Malformed p)
 unfolding openBlock readBlock
-malformed-agrees s k p = malformed-tests k (ltb most (length s)) (parse s) p
+malformed-agrees s k p = malformed-tests k (ltb mostBlock (length s)) (parse s) p

@@ -9,7 +9,7 @@ use lib.ListN.{length, getD}
 use lib.Dec.{ltb, leb, eqb, eqb·suc-zero}
 use borrow.Author.Tests.{ltb-false, leb-false, eqb-false, le-ltb, lt-leb, ne-eqb}
 use Rattle.block.specs.Pdu.{hasV, hasH, hasD, headSize, fields, sizeAt, lacksFlag, foundAt, pduAt}
-use Rattle.block.specs.Block.{most, nothing, Parsed, broken, messages, with, parse, messageAt, asked, readBlock}
+use Rattle.block.specs.Block.{mostBlock, nothing, Parsed, broken, messages, with, parse, messageAt, asked, readBlock}
 use Rattle.block.specs.Cursor.{astray, passed, nextMessage}
 use Rattle.block.specs.declared.Found.{Found}
 use Rattle.block.specs.declared.Cursor.{Cursor}
@@ -19,17 +19,9 @@ use Rattle.block.specs.declared.BlockRead.{BlockRead}
 use Rattle.block.specs.declared.BlockRead.the-variants.{Message, Fewer, TooLong, Malformed}
 use Rattle.block.specs.declared.Next.{Next}
 use Rattle.block.specs.declared.Next.the-variants as next
+use Rattle.block.specs.Inside.{In, Before, Ahead}
 use Rattle.block.proofs.Whole.{neither, sound, whole-within}
 use Rattle.block.proofs.Along.{along}
-
--- a message whose vector and data lie within the first `size` octets
-pub record In (size : ℕ) (m : Found) : Type 0 where
-  pub vector : m .vector < size
-  pub body : m .place + m .len ≤ size
-
--- the message before a place where a PDU begins lies before it, unless that PDU is the first
-abbrev pub Before : ℕ → Found → Type 0
-Before at m = 0 < at → In at m
 
 -- ---- one PDU
 
@@ -100,7 +92,7 @@ tested size false r i = i
 
 inside : (s : List ℕ) (position : ℕ) → Inside (length s) (readBlock s position)
 unfolding readBlock
-inside s position = tested (length s) (ltb most (length s)) (asked position (parse s)) (asked-inside s position)
+inside s position = tested (length s) (ltb mostBlock (length s)) (asked position (parse s)) (asked-inside s position)
 
 -- the places answered of a message are within the block
 pub read-inside : (s : List ℕ) (position : ℕ) {m : Found} → readBlock s position ≡ Message m → In (length s) m
@@ -114,7 +106,7 @@ bad-inside s position e = rw e at (inside s position)
 
 -- a cursor that is not astray in a block of this size
 pub record Own (size : ℕ) (c : Cursor) : Type 0 where
-  pub short : size ≤ most
+  pub short : size ≤ mostBlock
   pub within : c .next ≤ size
   pub lies : Before (c .next) (c .before)
 
@@ -124,10 +116,10 @@ own size c e =
     let at = c .next in
     let m = c .before in
     let passes = leb at (m .vector) || ltb at (m .place + m .len) in
-    let outer = neither (ltb most size || ltb size at) (not (eqb at 0) && passes) e in
-    let sizes = neither (ltb most size) (ltb size at) (outer .0) in
+    let outer = neither (ltb mostBlock size || ltb size at) (not (eqb at 0) && passes) e in
+    let sizes = neither (ltb mostBlock size) (ltb size at) (outer .0) in
     record {
-      short = ltb-false most size (sizes .0);
+      short = ltb-false mostBlock size (sizes .0);
       within = ltb-false size at (sizes .1);
       lies =
           λ h.
@@ -148,7 +140,7 @@ lies-test (suc n) m lies =
 pub not-astray : (size : ℕ) (c : Cursor) → Own size c → astray size c ≡ false
 unfolding astray
 not-astray size c o =
-    rw (le-ltb most size (o .short), le-ltb size (c .next) (o .within), lies-test (c .next) (c .before) (o .lies))
+    rw (le-ltb mostBlock size (o .short), le-ltb size (c .next) (o .within), lies-test (c .next) (c .before) (o .lies))
 
 -- behind a whole PDU lies a cursor that is not astray again
 pub own-behind : (s : List ℕ) (c : Cursor) (m : Found) (n : ℕ) → pduAt s (c .next) (c .before) ≡ Whole m n → Own (length s) c
@@ -159,15 +151,6 @@ own-behind s c m n e o =
       within = whole-within s (c .next) (c .before) e .1;
       lies = λ _. whole-in s (c .next) (c .before) e (o .lies);
     }
-
--- a message inside the block, and a cursor further on in it which lies behind that message, so that it is not astray either
-pub record Ahead (s : List ℕ) (c : Cursor) (m : Found) (d : Cursor) : Type 0 where
-  pub inside : In (length s) m
-  pub forward : c .next < d .next
-  pub within : d .next ≤ length s
-  pub before : d .before ≡ m
-  pub behind : In (d .next) m
-  pub not-astray : astray (length s) d ≡ false
 
 -- what reading on from c answers
 abbrev Goes : List ℕ → Cursor → Next → Type 0

@@ -15,7 +15,6 @@ use Rattle.octets.specs.Octets.{number}
 use Rattle.octets.proofs.Numbers.{part-cons}
 use Rattle.block.specs.Pdu.{hasL, hasV, hasH, hasD, headSize, fields, sizeAt, lacksFlag, leftOver, malformed, foundAt, pduAt}
 use Rattle.block.specs.declared.Found.{Found}
-use Rattle.block.specs.declared.Pdu.{Pdu}
 use Rattle.block.specs.declared.Pdu.the-variants.{Whole, Bad}
 
 -- ---- flags and length

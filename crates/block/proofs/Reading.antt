@@ -11,7 +11,7 @@ use lib.Dec.{ltb}
 use borrow.Author.Tests.{lt-ltb, le-ltb, le-leb, lt-leb, eq-eqb, ne-eqb, ltb-true, ltb-false}
 use borrow.Author.Needs.{needs}
 use Rattle.block.specs.Pdu.{pduAt}
-use Rattle.block.specs.Block.{most, nothing, Parsed, broken, messages, parse, readBlock, scanFrom, scanOf}
+use Rattle.block.specs.Block.{mostBlock, nothing, Parsed, broken, messages, parse, readBlock, scanFrom, scanOf}
 use Rattle.block.specs.Cursor.{start, openedOf, openBlock, astray, nextMessage}
 use Rattle.block.specs.declared.Found.{Found}
 use Rattle.block.specs.declared.Pdu.{Pdu}
@@ -28,23 +28,23 @@ use Rattle.block.proofs.Pass.{asked-is}
 -- ---- one message of a block
 
 module _ (s : List ℕ) (position : ℕ) where
-  pub read-long : most < length s → read.TooLong ≡ readBlock s position
+  pub read-long : mostBlock < length s → read.TooLong ≡ readBlock s position
   unfolding readBlock
-  read-long h = rw (lt-ltb most (length s) h)
+  read-long h = rw (lt-ltb mostBlock (length s) h)
 
-  module _ (h : length s ≤ most) (r : Scanned) (e : r ≡ scanOf s position) where
+  module _ (h : length s ≤ mostBlock) (r : Scanned) (e : r ≡ scanOf s position) where
     pub read-malformed : (at : ℕ) → r ≡ Stopped at → read.Malformed at ≡ readBlock s position
     unfolding readBlock scanOf
-    read-malformed at f = rw (le-ltb most (length s) h, ← asked-is position (parse s), ← e, f)
+    read-malformed at f = rw (le-ltb mostBlock (length s) h, ← asked-is position (parse s), ← e, f)
 
     module _ (count : ℕ) (m : Found) (f : r ≡ Through count m) where
       pub read-message : position < count → read.Message m ≡ readBlock s position
       unfolding readBlock scanOf
-      read-message i = rw (le-ltb most (length s) h, ← asked-is position (parse s), ← e, f, lt-ltb position count i)
+      read-message i = rw (le-ltb mostBlock (length s) h, ← asked-is position (parse s), ← e, f, lt-ltb position count i)
 
       pub read-fewer : count ≤ position → read.Fewer ≡ readBlock s position
       unfolding readBlock scanOf
-      read-fewer i = rw (le-ltb most (length s) h, ← asked-is position (parse s), ← e, f, le-ltb position count i)
+      read-fewer i = rw (le-ltb mostBlock (length s) h, ← asked-is position (parse s), ← e, f, le-ltb position count i)
 
 pub ruleset reads = (read-long, read-malformed, read-message, read-fewer, needs)
 
@@ -61,18 +61,18 @@ opened-is position (broken at) = refl
 opened-is position (messages ms) = rw (zero-add (length ms))
 
 module _ (s : List ℕ) where
-  pub open-long : most < length s → opened.TooLong ≡ openBlock s
+  pub open-long : mostBlock < length s → opened.TooLong ≡ openBlock s
   unfolding openBlock
-  open-long h = rw (lt-ltb most (length s) h)
+  open-long h = rw (lt-ltb mostBlock (length s) h)
 
-  module _ (h : length s ≤ most) (position : ℕ) (r : Scanned) (e : r ≡ scanOf s position) where
+  module _ (h : length s ≤ mostBlock) (position : ℕ) (r : Scanned) (e : r ≡ scanOf s position) where
     pub open-malformed : (at : ℕ) → r ≡ Stopped at → opened.Malformed at ≡ openBlock s
     unfolding openBlock scanOf
-    open-malformed at f = rw (le-ltb most (length s) h, ← opened-is position (parse s), ← e, f)
+    open-malformed at f = rw (le-ltb mostBlock (length s) h, ← opened-is position (parse s), ← e, f)
 
     pub open-messages : (count : ℕ) (m : Found) → r ≡ Through count m → opened.Messages count start ≡ openBlock s
     unfolding openBlock scanOf
-    open-messages count m f = rw (le-ltb most (length s) h, ← opened-is position (parse s), ← e, f)
+    open-messages count m f = rw (le-ltb mostBlock (length s) h, ← opened-is position (parse s), ← e, f)
 
 pub ruleset opens = (open-long, open-malformed, open-messages, needs)
 
@@ -84,17 +84,17 @@ data-end next place len true h e = lt-ltb (next - place) len (omega (arith, ltb-
 data-end next place len false h e = le-ltb (next - place) len (omega (arith, ltb-false next (place + len) e))
 
 module _ (size : ℕ) (c : Cursor) where
-  pub astray-long : most < size → true ≡ astray size c
+  pub astray-long : mostBlock < size → true ≡ astray size c
   unfolding astray
-  astray-long h = rw (lt-ltb most size h)
+  astray-long h = rw (lt-ltb mostBlock size h)
 
   pub astray-past : size < c .next → true ≡ astray size c
   unfolding astray
   astray-past h = sym (simp (lt-ltb size (c .next) h, or-true))
 
-  pub astray-start : size ≤ most → c .next ≤ size → c .next ≡ 0 → false ≡ astray size c
+  pub astray-start : size ≤ mostBlock → c .next ≤ size → c .next ≡ 0 → false ≡ astray size c
   unfolding astray
-  astray-start l h z = rw (le-ltb most size l, le-ltb size (c .next) h, z)
+  astray-start l h z = rw (le-ltb mostBlock size l, le-ltb size (c .next) h, z)
 
   module _ (n : c .next ≡ 0 → ⊥) where
     pub astray-vector : c .next ≤ c .before .vector → true ≡ astray size c
@@ -106,11 +106,11 @@ module _ (size : ℕ) (c : Cursor) where
     astray-place h =
         sym (simp (ne-eqb (c .next) 0 n, lt-ltb (c .next) (c .before .place + c .before .len) (omega arith), or-true))
 
-    pub astray-data : size ≤ most → c .next ≤ size → c .before .vector < c .next → c .before .place ≤ c .next
+    pub astray-data : size ≤ mostBlock → c .next ≤ size → c .before .vector < c .next → c .before .place ≤ c .next
         → ltb (c .next - c .before .place) (c .before .len) ≡ astray size c
     unfolding astray
     astray-data l h v p =
-        rw (le-ltb most size l, le-ltb size (c .next) h, ne-eqb (c .next) 0 n, lt-leb (c .next) (c .before .vector) v)
+        rw (le-ltb mostBlock size l, le-ltb size (c .next) h, ne-eqb (c .next) 0 n, lt-leb (c .next) (c .before .vector) v)
         (data-end (c .next) (c .before .place) (c .before .len) _ p refl)
 
   -- a cursor that is the block's does not lie past its end

@@ -5,13 +5,13 @@ use mathlib.Core.List.{List, [], _∷_, _++_, append-nil, append-assoc}
 use Prim.Native.Nat.{ℕ, zero, suc, _+_, _-_, _*_, _/_, _%_, _<_, _≤_}
 use native.Mathlib.Omega.{arith}
 use native.Mathlib.Nat.{div-one, mod-eq-of-lt}
-use lib.ListN.{length, getD, drop, length-append}
+use lib.ListN.{length, getD, length-append}
 use lib.Seq.{getD-append-seam, getD-append-add, drop-append-add, take-append-seam}
 use borrow.Author.Tests.{lt-ltb, le-ltb, eq-eqb, ne-eqb}
-use Rattle.octets.specs.Octets.{number, octets, part}
+use Rattle.octets.specs.Octets.{number, octets}
 use Rattle.block.specs.Pdu.{hasL, hasV, hasH, hasD, headSize, fields, sizeAt, lacksFlag, leftOver, malformed, foundAt, pduAt}
-use Rattle.block.specs.Block.{most, nothing, messages, with, parseFrom, parse, messageAt, asked, readBlock}
-use Rattle.block.specs.Written.{pdu, Piece, together}
+use Rattle.block.specs.Block.{mostBlock, nothing, messages, with, parseFrom, parse, messageAt, asked, readBlock}
+use Rattle.block.specs.Written.{pdu, Piece, together, Names, AllShort, Alone}
 use Rattle.block.specs.declared.Found.{Found}
 use Rattle.block.specs.declared.Pdu.the-variants.{Whole}
 use Rattle.block.specs.declared.BlockRead.the-variants.{Message, Fewer}
@@ -84,21 +84,6 @@ module _ (pre : List ℕ) (vector : ℕ) (body rest : List ℕ) where
           e,
         )
 
--- f names the vector and the data of m in the block s
-pub record Names (s : List ℕ) (f : Found) (m : Piece) : Type 0 where
-  pub vector : getD s (f .vector) 0 ≡ m .vector
-  pub body : part s (f .place) (f .len) ≡ m .body
-
--- a message that can be written: its vector is an octet, and the length of its PDU fits in twelve bits
-pub record Short (m : Piece) : Type 0 where
-  pub vector : m .vector < 256
-  pub body : 3 + length (m .body) < 4096
-
--- each of them can be written
-abbrev pub AllShort : List Piece → Type 0
-AllShort [] = Unit
-AllShort (m ∷ ms) = Short m × AllShort ms
-
 -- where messages lie that are written from `at` on
 abbrev placed : ℕ → List Piece → List Found
 placed at [] = []
@@ -150,11 +135,11 @@ length-placed : (at : ℕ) (ms : List Piece) → length (placed at ms) ≡ lengt
 length-placed at [] = refl
 length-placed at (m ∷ ms) = ap suc (length-placed (at + (3 + length (m .body))) ms)
 
-module _ (ms : List Piece) (a : AllShort ms) (h : length (together ms) ≤ most) where
+module _ (ms : List Piece) (a : AllShort ms) (h : length (together ms) ≤ mostBlock) where
   read-placed : (k : ℕ) → readBlock (together ms) k ≡ messageAt (placed 0 ms) k
   unfolding readBlock parse asked
   read-placed k =
-      rw (le-ltb most (length (together ms)) h, parse-together (length (together ms)) [] ms nothing a (omega arith))
+      rw (le-ltb mostBlock (length (together ms)) h, parse-together (length (together ms)) [] ms nothing a (omega arith))
 
   -- at each position below their number, the message of that position is read
   pub in-order : (k : ℕ) (d : Piece) → k < length ms
@@ -169,19 +154,12 @@ module _ (ms : List Piece) (a : AllShort ms) (h : length (together ms) ≤ most)
   pub no-more : (k : ℕ) → length ms ≤ k → readBlock (together ms) k ≡ Fewer
   no-more k i = read-placed k ∙ position-past (placed 0 ms) k (rw length-placed i)
 
--- a block that is one written PDU
-pub record Alone (vector : ℕ) (body : List ℕ) : Type 0 where
-  pub message : readBlock (pdu vector body) 0 ≡ Message (record { vector = 2; place = 3; len = length body })
-  pub vector-there : getD (pdu vector body) 2 0 ≡ vector
-  pub body-there : drop 3 (pdu vector body) ≡ body
-  pub no-other : readBlock (pdu vector body) 1 ≡ Fewer
-
 -- it has one message, with this vector and these data
 pub one-written : (vector : ℕ) (body : List ℕ) → vector < 256 → 3 + length body < 4096 → Alone vector body
 unfolding together octets messageAt
 one-written vector body v b =
     let ms : List Piece = record { vector = vector; body = body } ∷ [] in
-    let fits : length (together ms) ≤ most = omega (arith, length-here [] vector body []) in
+    let fits : length (together ms) ≤ mostBlock = omega (arith, length-here [] vector body []) in
     let reads = read-placed ms (record { vector = v; body = b }, tt) fits in
     record {
       message = rw append-nil at (reads 0);

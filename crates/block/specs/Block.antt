@@ -14,8 +14,8 @@ use Rattle.block.specs.declared.Scanned.{Scanned}
 use Rattle.block.specs.declared.Scanned.the-variants.{Stopped, Through}
 
 -- a block is at most 65,535 octets (01, "Room")
-abbrev pub most : ℕ
-most = 65535
+abbrev pub mostBlock : ℕ
+mostBlock = 65535
 
 -- what a block says: the place of its first malformed PDU, or all its messages in order
 pub data Parsed : Type 0 where
@@ -60,7 +60,7 @@ asked position (messages ms) = messageAt ms position
 
 -- reading a block checks 1, then 11 (01, "Refusal numbers")
 unfoldable pub readBlock : List ℕ → ℕ → BlockRead
-readBlock s position = cond (ltb most (length s)) TooLong (asked position (parse s))
+readBlock s position = cond (ltb mostBlock (length s)) TooLong (asked position (parse s))
 
 -- 01's number for what reading a block answers; 0 if it is no refusal
 abbrev pub numberOf : BlockRead → ℕ

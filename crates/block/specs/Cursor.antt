@@ -1,4 +1,4 @@
--- Reading a block once, message by message: opening it, and the next message from a cursor on.
+-- Reading a block once, message by message: opening it, and the next message from a cursor on. Ours beside 01's reading by position (docs/DECISIONS.md, "Reading a block").
 use Prim.Native.Nat.{ℕ, zero, suc, _+_}
 use mathlib.Core.Path.{_≡_}
 use mathlib.Core.Bool.{Bool, cond, not, _&&_, _||_}
@@ -6,7 +6,7 @@ use mathlib.Core.List.{List}
 use lib.ListN.{length}
 use lib.Dec.{ltb, leb, eqb}
 use Rattle.block.specs.Pdu.{pduAt}
-use Rattle.block.specs.Block.{most, nothing, Parsed, broken, messages, parse}
+use Rattle.block.specs.Block.{mostBlock, nothing, Parsed, broken, messages, parse}
 use Rattle.block.specs.declared.Cursor.{Cursor}
 use Rattle.block.specs.declared.Pdu.{Pdu}
 use Rattle.block.specs.declared.Pdu.the-variants.{Whole, Bad}
@@ -27,7 +27,7 @@ openedOf (broken p) = opened.Malformed p
 openedOf (messages ms) = opened.Messages (length ms) start
 
 unfoldable pub openBlock : List ℕ → Opened
-openBlock s = cond (ltb most (length s)) opened.TooLong (openedOf (parse s))
+openBlock s = cond (ltb mostBlock (length s)) opened.TooLong (openedOf (parse s))
 
 -- 01's number for what opening a block answers; 0 if it is opened
 abbrev pub numberOf : Opened → ℕ
@@ -39,7 +39,7 @@ numberOf (opened.Malformed p) = 11
 -- long has no cursors
 unfoldable pub astray : ℕ → Cursor → Bool
 astray size c =
-    ltb most size
+    ltb mostBlock size
     || ltb size (c .next)
     || (not (eqb (c .next) 0) && (leb (c .next) (c .before .vector) || ltb (c .next) (c .before .place + c .before .len)))
 

@@ -58,7 +58,7 @@ pub enum Scanned {
     Through { count: usize, found: Found },
 }
 
-const MOST: usize = 65535;
+const MOST_BLOCK: usize = 65535;
 
 const NOTHING: Found = Found {
     vector: 0,
@@ -209,7 +209,7 @@ fn scan(block: &[u8], position: usize) -> Scanned
 pub fn read_block(block: &[u8], position: u32) -> BlockRead
     ensures { λ r. ⌜ ReadBlockAllows (now (block .entry)) position r ⌝ }
 {
-    if MOST < block.len() {
+    if MOST_BLOCK < block.len() {
         return BlockRead::TooLong;
     }
     let asked = position as usize;
@@ -229,7 +229,7 @@ pub fn read_block(block: &[u8], position: u32) -> BlockRead
 pub fn open_block(block: &[u8]) -> Opened
     ensures { λ r. ⌜ OpenBlockAllows (now (block .entry)) r ⌝ }
 {
-    if MOST < block.len() {
+    if MOST_BLOCK < block.len() {
         return Opened::TooLong;
     }
     match scan(block, 0) {
@@ -250,7 +250,7 @@ fn is_astray(size: usize, c: Cursor) -> bool
 {
     let next = c.next;
     let before = c.before;
-    if MOST < size {
+    if MOST_BLOCK < size {
         return true;
     }
     if size < next {

@@ -1,4 +1,4 @@
--- What a plan has to be so that it can be carried out. Every plan of a well-formed record is (proofs/PlanFits.antt).
+-- What a plan has to be so that it can be carried out in the lent octets (01, "Room"). Every plan of a well-formed record is so (proofs/PlanFits.antt).
 use Prim.Native.Nat.{ℕ, _<_, _≤_}
 use mathlib.Core.Path.{_≡_}
 use lib.ListN.{getD}

@@ -1,4 +1,4 @@
--- What is said of deliveries beside what they are: contents as long as is told, which fit a cell. That all that a step delivers is so is proved
+-- Deliveries that fit their cells (01, "Room"): the contents are as long as the delivery says, and not longer than a cell. That all that a step delivers is so is proved
 -- (proofs/DeliveredLength.antt).
 use Prim.{Unit}
 use Prim.Native.Nat.{_≤_}

@@ -8,9 +8,9 @@ ghost use Rattle.carry.specs.Carried.{placeBegins, heldAfter, atOnce, fr
 ghost use Rattle.carry.specs.Fits.{Fits};
 use counter::Reliable;
 use counter::Total;
+use message::MOST_CONTENTS;
 use octets::copy_into;
 use octets::copy_part;
-use record::MOST_CONTENTS;
 use record::Place;
 use wrapper::Arrived;
 use wrapper::Fate;

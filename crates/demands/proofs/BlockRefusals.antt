@@ -11,7 +11,7 @@ use lib.ListN.{length}
 use lib.Dec.{ltb}
 use borrow.Author.Tests.{ltb-true, ltb-false, lt-ltb, le-ltb}
 use Rattle.block.specs.Pdu.{pduAt}
-use Rattle.block.specs.Block.{most, nothing, Parsed, broken, messages, with, onward, parseFrom, parse, readBlock}
+use Rattle.block.specs.Block.{mostBlock, nothing, Parsed, broken, messages, with, onward, parseFrom, parse, readBlock}
 use Rattle.block.specs.Cursor.{openedOf, openBlock}
 use Rattle.block.specs.declared.Found.{Found}
 use Rattle.block.specs.declared.Pdu.{Pdu}
@@ -31,8 +31,8 @@ Stops s at before (messages ms) = Unit
 -- what an answer says of the block
 abbrev Why : List ℕ → Opened → Type 0
 Why s (opened.Messages count cursor) = Unit
-Why s opened.TooLong = most < length s
-Why s (opened.Malformed p) = (length s ≤ most) × FirstBad s 0 nothing p
+Why s opened.TooLong = mostBlock < length s
+Why s (opened.Malformed p) = (length s ≤ mostBlock) × FirstBad s 0 nothing p
 
 module _ (s : List ℕ) where
   -- ---- from the answer to the PDUs
@@ -60,18 +60,18 @@ module _ (s : List ℕ) where
   unfolding parse
   parse-stops = stops (length s) 0 nothing (ltb 0 (length s)) refl
 
-  opened-why : (r : Parsed) → length s ≤ most → Stops s 0 nothing r → Why s (openedOf r)
+  opened-why : (r : Parsed) → length s ≤ mostBlock → Stops s 0 nothing r → Why s (openedOf r)
   unfolding openedOf
   opened-why (broken p) h f = (h, f)
   opened-why (messages ms) h f = tt
 
   why : Why s (openBlock s)
   unfolding openBlock
-  why = by (ltb most (length s)) refl
+  why = by (ltb mostBlock (length s)) refl
     where
-      by : (t : Bool) → ltb most (length s) ≡ t → Why s (cond t opened.TooLong (openedOf (parse s)))
-      by true e = ltb-true most (length s) e
-      by false e = opened-why (parse s) (ltb-false most (length s) e) parse-stops
+      by : (t : Bool) → ltb mostBlock (length s) ≡ t → Why s (cond t opened.TooLong (openedOf (parse s)))
+      by true e = ltb-true mostBlock (length s) e
+      by false e = opened-why (parse s) (ltb-false mostBlock (length s) e) parse-stops
 
   -- ---- from the PDUs to the answer
 
@@ -89,26 +89,26 @@ module _ (s : List ℕ) where
   unfolding parse
   parse-breaks f = breaks (length s) f (omega arith)
 
-  long-refused : most < length s → openBlock s ≡ opened.TooLong
+  long-refused : mostBlock < length s → openBlock s ≡ opened.TooLong
   unfolding openBlock
-  long-refused h = rw (lt-ltb most (length s) h)
+  long-refused h = rw (lt-ltb mostBlock (length s) h)
 
-  bad-refused : {p : ℕ} → length s ≤ most → FirstBad s 0 nothing p → openBlock s ≡ opened.Malformed p
+  bad-refused : {p : ℕ} → length s ≤ mostBlock → FirstBad s 0 nothing p → openBlock s ≡ opened.Malformed p
   unfolding openBlock openedOf
-  bad-refused h f = rw (le-ltb most (length s) h, parse-breaks f)
+  bad-refused h f = rw (le-ltb mostBlock (length s) h, parse-breaks f)
 
   -- ---- each refusal exactly if its condition holds and no earlier one does
 
-  pub open-too-long : (openBlock s ≡ opened.TooLong) ↔ (most < length s)
+  pub open-too-long : (openBlock s ≡ opened.TooLong) ↔ (mostBlock < length s)
   open-too-long = (λ e. rw e at why, long-refused)
 
-  pub open-malformed : (p : ℕ) → (openBlock s ≡ opened.Malformed p) ↔ ((length s ≤ most) × FirstBad s 0 nothing p)
+  pub open-malformed : (p : ℕ) → (openBlock s ≡ opened.Malformed p) ↔ ((length s ≤ mostBlock) × FirstBad s 0 nothing p)
   open-malformed p = (λ e. rw e at why, λ h. bad-refused (h .0) (h .1))
 
   -- 1: the block is too long
-  pub read-too-long : (position : ℕ) → (readBlock s position ≡ TooLong) ↔ (most < length s)
+  pub read-too-long : (position : ℕ) → (readBlock s position ≡ TooLong) ↔ (mostBlock < length s)
   read-too-long position = Iff·trans (Iff·symm (long-agrees s position)) open-too-long
 
   -- 11: some PDU of the block is malformed; the place is that of the first such
-  pub read-malformed : (position p : ℕ) → (readBlock s position ≡ Malformed p) ↔ ((length s ≤ most) × FirstBad s 0 nothing p)
+  pub read-malformed : (position p : ℕ) → (readBlock s position ≡ Malformed p) ↔ ((length s ≤ mostBlock) × FirstBad s 0 nothing p)
   read-malformed position p = Iff·trans (Iff·symm (malformed-agrees s position p)) (open-malformed p)

@@ -87,7 +87,7 @@ abbrev numbersOf : Delivered → turns.Delivery
 numbersOf x = record { reliably = x .delivery .reliably; total = x .delivery .total; reliable = x .delivery .reliable }
 
 -- deliveries that go on in turn from where others end
-join-turns : (t : Total) (n : Reliable) (xs ys : List Delivered) (u : Total) (m : Reliable) → turns.InTurn t n (map numbersOf xs) u m → InTurn u m ys
+join-turns : (t : Total) (n : Reliable) (xs ys : List Delivered) (u : Total) (m : Reliable) → turns.InTurnTo t n (map numbersOf xs) u m → InTurn u m ys
     → InTurn t n (xs ++ ys)
 unfolding InTurn
 join-turns t n [] ys u m e rest = rw (e .0, e .1) rest
@@ -140,7 +140,7 @@ step-in-turn h (answers t (joins d reply) z) four xs rest = rest
 step-in-turn h (wraps v d w fits fresh) four xs rest =
     let after = taken (h .at) (brought v d) .after in
     join-turns (h .at .total) (h .at .reliable) (deliveredBy (h .held) 0 (brought v d) (contents d) (taken (h .at) (brought v d))) xs (after .total) (after .reliable)
-    (subst (λ ds. turns.InTurn (h .at .total) (h .at .reliable) ds (after .total) (after .reliable))
+    (subst (λ ds. turns.InTurnTo (h .at .total) (h .at .reliable) ds (after .total) (after .reliable))
     (sym (step-numbers (h .at) (brought v d) (h .held) (contents d) four)) (in-turn (h .at) (brought v d) four fresh))
     rest
 step-in-turn h (passes ms) four xs rest =

@@ -27,7 +27,7 @@ use Rattle.record.specs.declared.Record.{Record}
 use Rattle.record.proofs.Formed.{formed}
 use Rattle.record.proofs.Choices.{never}
 use Rattle.gap.proofs.Moves.{Move, stands, expires, lost, goes-on, moves, Next, quiet, stands-on, asks, waits-on, once-more}
-use Rattle.gap.specs.Range.{Asked}
+use Rattle.gap.specs.Range.{OnlyMissing}
 use Rattle.gap.proofs.Range.{nak-asks}
 use Rattle.gap.specs.Elapsed.{inStandoff, phased, elapsedOf}
 use Rattle.gap.specs.Range.{nearer, nearest, nakLast, nakFirst}
@@ -279,13 +279,13 @@ nak-is r ms n first last outbound (goes-on u x m) e = by (r .gap) m e
 
 -- elapsed time lets R, K, the places and the terms stand
 move-right : (r : Record) (ms : ℕ) (n first last : Reliable) (outbound : Bool) {o : Elapsed} → Move r ms o
-    → (n ≡ r .reliable) × Asked (r .reliable .0) (r .known .0) (r .places) (first .0) (last .0)
+    → (n ≡ r .reliable) × OnlyMissing (r .reliable .0) (r .known .0) (r .places) (first .0) (last .0)
     → (first ≡ nakFirst r) × (last ≡ nakLast r) × (outbound ≡ r .terms .outbound)
     → (n ≡ o .after .reliable)
     × (first ≡ nakFirst (o .after))
     × (last ≡ nakLast (o .after))
     × (outbound ≡ o .after .terms .outbound)
-    × Asked (o .after .reliable .0) (o .after .known .0) (o .after .places) (first .0) (last .0)
+    × OnlyMissing (o .after .reliable .0) (o .after .known .0) (o .after .places) (first .0) (last .0)
 unfolding nakFirst nakLast
 move-right r ms n first last outbound (stands u) a b = (a .0, b .0, b .1, b .2, a .1)
 move-right r ms n first last outbound (expires u x) a b = (a .0, b .0, b .1, b .2, a .1)
@@ -312,7 +312,7 @@ right-of i owner channel s c j =
     step-right (channelAt i s) (does (channelAt i s) owner c) (sound .reliable) (sound .known) (has .formed .each i)
 
 -- so no number that is asked for is held
-pub asked-not-held : {r k : ℕ} {ps : List Place} {first last : ℕ} → Asked r k ps first last → (x : ℕ) → ahead r x ≤ ahead r last
+pub asked-not-held : {r k : ℕ} {ps : List Place} {first last : ℕ} → OnlyMissing r k ps first last → (x : ℕ) → ahead r x ≤ ahead r last
     → (j : ℕ) → getD ps j noPlace .used ≡ true → getD ps j noPlace .reliable .0 ≢ x
 asked-not-held {r} {k} {ps} {first} {last} a x within j used e =
     let beyond = a .missing j used in

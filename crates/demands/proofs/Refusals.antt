@@ -43,7 +43,7 @@ use Rattle.member.specs.Messages.{Outcome, isFound, refusedMessage, joinOutcome
 use Rattle.member.specs.Elapsing.{longest, Passing, refusedElapsed, passing, elapsedOutcome, cellOf, cellsFrom, elapsedEnd}
 use Rattle.member.specs.Leaving.{Departing, refusedLeave, departing, leaveFor, leaveOutcome, left, leaveEnd}
 use Rattle.member.specs.declared.Given.the-variants as given
-use Rattle.demands.specs.Refusals.{firstOf, First, None, check, unreadable, isWrapper, tooLong, recordOf, isOld, isInconsistent, messageChecks, elapsedChecks, leaveChecks, messageStands, elapsedStands, leaveStands}
+use Rattle.demands.specs.Refusals.{firstOf, First, None, check, unreadable, isWrapper, tooLong, recordFound, isOld, isInconsistent, messageChecks, elapsedChecks, leaveChecks, messageStands, elapsedStands, leaveStands}
 use Rattle.demands.proofs.Lemmas.Checks.{Numbered, empty, numbered, first-is-given, given-is-first, none-is-given, given-is-none}
 
 -- ---- elapsed and leave calls
@@ -165,8 +165,8 @@ module _ (ts : List Record) (held : List ℕ) (s : Cid) (n : ℕ) (c : List ℕ)
       (firstOf
       (check 6 (not (isFound f))
       ∷ check 7 over
-      ∷ check 8 (isOld (judged (recordOf ts f) reliably (w .total) (w .reliable)))
-      ∷ check 9 (isInconsistent (judged (recordOf ts f) reliably (w .total) (w .reliable)))
+      ∷ check 8 (isOld (judged (recordFound ts f) reliably (w .total) (w .reliable)))
+      ∷ check 9 (isInconsistent (judged (recordFound ts f) reliably (w .total) (w .reliable)))
       ∷ []))
       (askedOutcome ts held s n c (wrapperFor f reliably w len))
   unfolding firstOf wrapperOutcome stepped
@@ -216,8 +216,8 @@ module _ (ts : List Record) (held : List ℕ) (s : Cid) (n : ℕ) (c : List ℕ)
       ∷ check 5 (not (isWrapper v) && not (eqb v join && same (joinOf d .cid) o))
       ∷ check 6 (isWrapper v && not (isFound (found 0 s (wrapperOf d .channel) ts)))
       ∷ check 7 (tooLong v d)
-      ∷ check 8 (isWrapper v && isOld (judged (recordOf ts (found 0 s (wrapperOf d .channel) ts)) (eqb v reliableWrapper) (wrapperOf d .total) (wrapperOf d .reliable)))
-      ∷ check 9 (isWrapper v && isInconsistent (judged (recordOf ts (found 0 s (wrapperOf d .channel) ts)) (eqb v reliableWrapper) (wrapperOf d .total) (wrapperOf d .reliable)))
+      ∷ check 8 (isWrapper v && isOld (judged (recordFound ts (found 0 s (wrapperOf d .channel) ts)) (eqb v reliableWrapper) (wrapperOf d .total) (wrapperOf d .reliable)))
+      ∷ check 9 (isWrapper v && isInconsistent (judged (recordFound ts (found 0 s (wrapperOf d .channel) ts)) (eqb v reliableWrapper) (wrapperOf d .total) (wrapperOf d .reliable)))
       ∷ []))
       (askedOutcome ts held s n c (askedOf ts s o v d))
   unfolding askedOf readMessage messageOf firstOf wrapperAsks
@@ -233,8 +233,8 @@ module _ (ts : List Record) (held : List ℕ) (s : Cid) (n : ℕ) (c : List ℕ)
           ∷ check 5 (not (x || y) && not (z && q))
           ∷ check 6 ((x || y) && not (isFound f))
           ∷ check 7 ((x || y) && ltb mostContents (length (contents d)))
-          ∷ check 8 ((x || y) && isOld (judged (recordOf ts f) x (wrapperOf d .total) (wrapperOf d .reliable)))
-          ∷ check 9 ((x || y) && isInconsistent (judged (recordOf ts f) x (wrapperOf d .total) (wrapperOf d .reliable)))
+          ∷ check 8 ((x || y) && isOld (judged (recordFound ts f) x (wrapperOf d .total) (wrapperOf d .reliable)))
+          ∷ check 9 ((x || y) && isInconsistent (judged (recordFound ts f) x (wrapperOf d .total) (wrapperOf d .reliable)))
           ∷ []))
           (askedOutcome ts held s n c
           (readAsks ts s o
@@ -254,8 +254,8 @@ module _ (ts : List Record) (held : List ℕ) (s : Cid) (n : ℕ) (c : List ℕ)
           ∷ check 5 (not (isWrapper v) && not (eqb v join && same (joinOf d .cid) o))
           ∷ check 6 (isWrapper v && not (isFound f))
           ∷ check 7 (tooLong v d)
-          ∷ check 8 (isWrapper v && isOld (judged (recordOf ts f) (eqb v reliableWrapper) (wrapperOf d .total) (wrapperOf d .reliable)))
-          ∷ check 9 (isWrapper v && isInconsistent (judged (recordOf ts f) (eqb v reliableWrapper) (wrapperOf d .total) (wrapperOf d .reliable)))
+          ∷ check 8 (isWrapper v && isOld (judged (recordFound ts f) (eqb v reliableWrapper) (wrapperOf d .total) (wrapperOf d .reliable)))
+          ∷ check 9 (isWrapper v && isInconsistent (judged (recordFound ts f) (eqb v reliableWrapper) (wrapperOf d .total) (wrapperOf d .reliable)))
           ∷ []))
           (askedOutcome ts held s n c (askedOf ts s o v d))
       split true e = let v-is : v ≡ ack = eqb-true v ack e in rw v-is (ack-told o d (length (contents d)) (readable ack d))

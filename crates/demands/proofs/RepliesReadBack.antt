@@ -17,9 +17,9 @@ use Rattle.octets.specs.Octets.{number, octets, Octets as Bytes}
 use Rattle.counter.specs.Distance.{turn}
 use Rattle.counter.specs.declared.Reliable.{Reliable}
 use Rattle.counter.proofs.Distances.{next-below, before-below}
-use Rattle.block.specs.Block.{most}
-use Rattle.block.specs.Written.{Piece, together}
-use Rattle.block.proofs.Together.{Short, AllShort, in-order, no-more}
+use Rattle.block.specs.Block.{mostBlock}
+use Rattle.block.specs.Written.{Piece, together, Short, AllShort}
+use Rattle.block.proofs.Together.{in-order, no-more}
 use Rattle.message.specs.Layouts.{reliable, cidAt, parametersAt, addressOf as addressOfJoin, joinOf}
 use Rattle.message.specs.Reading.{readMessage}
 use Rattle.message.specs.declared.Address.{Address}
@@ -90,7 +90,7 @@ sent-short : (m : Message) → length (sentOf m) < 4096
 unfolding pduOf octets
 sent-short m = omega (arith, piece-short m .body)
 
-module _ (ps : List Piece) (a : AllShort ps) (h : length (together ps) ≤ most) where
+module _ (ps : List Piece) (a : AllShort ps) (h : length (together ps) ≤ mostBlock) where
   read-at : (k : ℕ) (m : Message) → k < length ps → getD ps k (pieceOf m) ≡ pieceOf m → Fits m → hasForm m ≡ true → ReadAt (together ps) k m
   read-at k m l e fits form =
       let f = in-order ps a h k (pieceOf m) l in
@@ -111,7 +111,7 @@ one-read : (m : Message) → Fits m → hasForm m ≡ true → ReadFrom (sentOf 
 unfolding together pduOf
 one-read m fits form =
     let ps : List Piece = pieceOf m ∷ [] in
-    let few : length (together ps) ≤ most = rw append-nil (omega (arith, sent-short m)) in
+    let few : length (together ps) ≤ mostBlock = rw append-nil (omega (arith, sent-short m)) in
     let a : AllShort ps = (piece-short m, tt) in
     subst (λ (s : List ℕ). ReadFrom s 0 (m ∷ [])) (append-nil (sentOf m))
     (read-at ps a few 0 m (lit< tt) refl fits form, no-more ps a few 1 (lit≤ tt))
@@ -120,7 +120,7 @@ two-read : (m n : Message) → Fits m → hasForm m ≡ true → Fits n → hasF
 unfolding together pduOf
 two-read m n fits form fits-n form-n =
     let ps : List Piece = pieceOf m ∷ pieceOf n ∷ [] in
-    let few : length (together ps) ≤ most = rw (append-nil, length-append (sentOf m) (sentOf n)) (omega (arith, sent-short m, sent-short n)) in
+    let few : length (together ps) ≤ mostBlock = rw (append-nil, length-append (sentOf m) (sentOf n)) (omega (arith, sent-short m, sent-short n)) in
     let a : AllShort ps = (piece-short m, (piece-short n, tt)) in
     subst (λ (s : List ℕ). ReadFrom (sentOf m ++ s) 0 (m ∷ n ∷ [])) (append-nil (sentOf n))
     (read-at ps a few 0 m (lit< tt) refl fits form, (read-at ps a few 1 n (lit< tt) refl fits-n form-n, no-more ps a few 2 (lit≤ tt)))

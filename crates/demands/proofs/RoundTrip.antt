@@ -15,14 +15,14 @@ use Rattle.octets.specs.Octets.{Octets}
 use Rattle.block.specs.Pdu.{headSize, fields, sizeAt, lacksFlag, leftOver, malformed, foundAt, pduAt}
 use Rattle.block.specs.Block.{parseFrom, parse, messageAt, asked, readBlock}
 use Rattle.block.specs.declared.BlockRead.the-variants as block
-use Rattle.message.specs.Lengths.{look, lengthOf}
+use Rattle.message.specs.Lengths.{look, lengthOf, mostContents}
 use Rattle.message.specs.Reading.{readable, fixedOf, messageOf, readMessage}
 use Rattle.message.specs.declared.Message.{Message}
 use Rattle.message.specs.declared.Message.the-variants as message
 use Rattle.message.specs.declared.MessageRead.the-variants.{Read}
 use Rattle.writing.specs.Fields.{wrapperOctets, fieldsOf}
 use Rattle.writing.specs.Fits.{Fits}
-use Rattle.writing.specs.Writing.{most, vectorOf, addressOf, hasForm, carriedOf, contentsOf, pduOf, wrote}
+use Rattle.writing.specs.Writing.{vectorOf, addressOf, hasForm, carriedOf, contentsOf, pduOf, wrote}
 use Rattle.demands.specs.ReadBack.{IsWrapper, ReadBack, WrittenAgain, reliable, unreliable}
 use Rattle.demands.proofs.Lemmas.Back.{message-back, length-behind-head, alone, not-refused, in-room}
 use Rattle.demands.proofs.Lemmas.Again.{again}
@@ -41,7 +41,7 @@ contents-back c (unreliable w) = take-length c
 pub round-trip : (m : Message) (c r : List ℕ)
     → Fits m
     → hasForm m ≡ true
-    → length (contentsOf m c) ≤ most
+    → length (contentsOf m c) ≤ mostContents
     → length (pduOf m c) ≤ length r
     → ReadBack m c r
 unfolding pduOf

@@ -21,7 +21,7 @@ use Rattle.message.specs.declared.Parameters.{Parameters}
 use Rattle.record.specs.Profile.{nakTimeout, maxRetries}
 use Rattle.record.specs.WellFormed.{closed}
 use Rattle.record.specs.declared.Terms.{Terms}
-use Rattle.gap.specs.Range.{nakFirst, nakLast, Asked}
+use Rattle.gap.specs.Range.{nakFirst, nakLast, OnlyMissing}
 use Rattle.gap.specs.declared.Event.the-variants as event
 use Rattle.record.specs.Places.{noPlace}
 use Rattle.joining.specs.declared.Decision.the-variants as decision
@@ -114,7 +114,7 @@ pub data Makes (s : State) : Call → ℕ → Cid → ℕ → Join → Type 0 wh
 -- ---- what is asked for
 
 -- a NAK carries R and asks for the range that the definition gives, from R + 1 to one before the nearest held number or to K; it goes outbound if the channel asks for
--- that; and the range is as `Asked` says: it names nothing that is held. R, K and the held wrappers are the channel's when the NAK is sent
+-- that; and the range is as `OnlyMissing` says: it names nothing that is held. R, K and the held wrappers are the channel's when the NAK is sent
 abbrev pub NakRight : Came Channel Told → Type 0
 NakRight m =
     (n first last : Reliable) (outbound : Bool) (octets : List ℕ) → m .answer ≡ passed (event.Nak n first last outbound) octets
@@ -122,7 +122,7 @@ NakRight m =
     × (first ≡ nakFirst (m .state .at))
     × (last ≡ nakLast (m .state .at))
     × (outbound ≡ m .state .at .terms .outbound)
-    × Asked (m .state .at .reliable .0) (m .state .at .known .0) (m .state .at .places) (first .0) (last .0)
+    × OnlyMissing (m .state .at .reliable .0) (m .state .at .known .0) (m .state .at .places) (first .0) (last .0)
 
 -- ---- time
 

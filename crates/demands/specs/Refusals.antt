@@ -74,14 +74,14 @@ noRecord ts sender v d = isWrapper v && not (isFound (ownPlace ts sender d))
 abbrev pub tooLong : ℕ → List ℕ → Bool
 tooLong v d = isWrapper v && ltb mostContents (length (contents d))
 
-abbrev pub recordOf : List Record → Found → Record
-recordOf ts (search.At i) = recordAt ts i
-recordOf ts search.Nowhere = blank []
+abbrev pub recordFound : List Record → Found → Record
+recordFound ts (search.At i) = recordAt ts i
+recordFound ts search.Nowhere = blank []
 
 -- step 1 of the wrapper on its own record
 abbrev pub judgement : List Record → List ℕ → ℕ → List ℕ → Judged
 judgement ts sender v d =
-    judged (recordOf ts (ownPlace ts sender d)) (eqb v reliableWrapper) (wrapperOf d .total) (wrapperOf d .reliable)
+    judged (recordFound ts (ownPlace ts sender d)) (eqb v reliableWrapper) (wrapperOf d .total) (wrapperOf d .reliable)
 
 abbrev pub isOld : Judged → Bool
 isOld judging.Old = true

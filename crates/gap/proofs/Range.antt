@@ -21,7 +21,7 @@ use Rattle.record.specs.declared.Place.{Place}
 use Rattle.record.specs.declared.Record.{Record}
 use Rattle.record.proofs.Formed as formed
 use Rattle.record.proofs.Choices.{never}
-use Rattle.gap.specs.Range.{nearer, nearest, endBy, nakFirst, nakLast, Asked}
+use Rattle.gap.specs.Range.{nearer, nearest, endBy, nakFirst, nakLast, OnlyMissing}
 use Rattle.gap.specs.Elapsed.{elapsedOf}
 use Rattle.gap.specs.declared.Event.{Event}
 use Rattle.gap.specs.declared.Event.the-variants as event
@@ -108,7 +108,7 @@ module _ (r k : Reliable) (known : ahead (r .0) (k .0) < 2147483648) where
 -- ---- the range
 
 ends : (r k : Reliable) (h : ahead (r .0) (k .0) < 2147483648) (ps : List Place) → r .0 < turn → 1 ≤ ahead (r .0) (k .0)
-    → (m : Nearest) → Nearest-of r k h Nothing ps m → Asked (r .0) (k .0) ps (next (r .0)) (endBy m k .0)
+    → (m : Nearest) → Nearest-of r k h Nothing ps m → OnlyMissing (r .0) (k .0) ps (next (r .0)) (endBy m k .0)
 ends r k h ps hr gap Nothing f =
     record { begins = refl; some = gap; within = omega arith; missing = λ i u. absurd (f .places i u) }
 ends r k h ps hr gap (Held n) f =
@@ -122,7 +122,7 @@ ends r k h ps hr gap (Held n) f =
 
 -- the NAK of a record with a gap; R and K are numbers of 32 bits
 pub range : (r : Record) → r .reliable .0 < turn → r .known .0 < turn → wellFormed r ≡ true → r .used ≡ true → closed r ≡ false
-    → Asked (r .reliable .0) (r .known .0) (r .places) (nakFirst r .0) (nakLast r .0)
+    → OnlyMissing (r .reliable .0) (r .known .0) (r .places) (nakFirst r .0) (nakLast r .0)
 unfolding closed nakFirst nakLast
 range r hr hk w u g =
     let f = formed.formed r w u in
@@ -137,7 +137,7 @@ gap-open r h = ne-eqb _ _ h
 
 move-asks : (r : Record) (ms : ℕ) → r .reliable .0 < turn → r .known .0 < turn → wellFormed r ≡ true → {o : Elapsed} → Move r ms o
     → (n first last : Reliable) (outbound : Bool) → o .event ≡ event.Nak n first last outbound
-    → (n ≡ r .reliable) × Asked (r .reliable .0) (r .known .0) (r .places) (first .0) (last .0)
+    → (n ≡ r .reliable) × OnlyMissing (r .reliable .0) (r .known .0) (r .places) (first .0) (last .0)
 move-asks r ms hr hk w (stands u) n first last outbound e = never (cc)
 move-asks r ms hr hk w (expires u x) n first last outbound e = never (cc)
 move-asks r ms hr hk w (lost u x g l c) n first last outbound e = never (cc)
@@ -145,7 +145,7 @@ move-asks r ms hr hk w (goes-on u x m) n first last outbound e = by (r .gap) m (
   where
     by : (g : Gap) {h : Gap} {o : Event} → Next r ms g h o → formed.Phase (r .reliable .0) (r .known .0) (r .terms) g
         → o ≡ event.Nak n first last outbound
-        → (n ≡ r .reliable) × Asked (r .reliable .0) (r .known .0) (r .places) (first .0) (last .0)
+        → (n ≡ r .reliable) × OnlyMissing (r .reliable .0) (r .known .0) (r .places) (first .0) (last .0)
     by Quiet quiet p e = never (cc)
     by (Standoff left count) (stands-on l) p e = never (cc)
     by (Waiting left count) (waits-on l) p e = never (cc)
@@ -159,5 +159,5 @@ move-asks r ms hr hk w (goes-on u x m) n first last outbound e = by (r .gap) m (
 -- so every NAK that elapsed time sends carries R and such a range
 pub nak-asks : (r : Record) (ms : ℕ) → r .reliable .0 < turn → r .known .0 < turn → wellFormed r ≡ true
     → (n first last : Reliable) (outbound : Bool) → elapsedOf r ms .event ≡ event.Nak n first last outbound
-    → (n ≡ r .reliable) × Asked (r .reliable .0) (r .known .0) (r .places) (first .0) (last .0)
+    → (n ≡ r .reliable) × OnlyMissing (r .reliable .0) (r .known .0) (r .places) (first .0) (last .0)
 nak-asks r ms hr hk w = move-asks r ms hr hk w (moves r ms)

@@ -25,20 +25,23 @@ unfoldable pub nearest : Reliable → Nearest → List Place → Nearest
 nearest r found [] = found
 nearest r found (p ∷ ps) = nearest r (nearer r found p) ps
 
+-- one before the nearest held number, or k if none is held
 abbrev pub endBy : Nearest → Reliable → Reliable
 endBy (Held n) k = record { 0 = previous (n .0) }
 endBy Nothing k = k
 
+-- where the NAK of a record ends
 unfoldable pub nakLast : Record → Reliable
 nakLast r = endBy (nearest (r .reliable) Nothing (r .places)) (r .known)
 
+-- and where it begins: at R + 1
 unfoldable pub nakFirst : Record → Reliable
 nakFirst r = record { 0 = next (r .reliable .0) }
 
--- What 01 asks of a NAK's range, said of the range `first` to `last` by itself and not of how it is found, with R, K and the record's places: it begins right behind R;
--- counting up from R, at least one number leads to its end; its end is not past K; and every held number comes behind its end, so that only what is missing
--- is asked for. That the NAKs of a record are so is proved (proofs/Range.antt)
-pub record Asked (reliable known : ℕ) (places : List Place) (first last : ℕ) : Type 0 where
+-- That a range `first` to `last` asks only for what is missing, said without the search that finds it, with R, K and the record's places: it begins right behind R; counting
+-- up from R, at least one number leads to its end; its end is not past K; and every held number comes behind its end. That the NAKs of a record are so is proved
+-- (proofs/Range.antt); where exactly they end is `nakLast`
+pub record OnlyMissing (reliable known : ℕ) (places : List Place) (first last : ℕ) : Type 0 where
   pub begins : first ≡ next reliable
   pub some : 1 ≤ ahead reliable last
   pub within : ahead reliable last ≤ ahead reliable known

@@ -1,4 +1,4 @@
--- The conditions of a Join's checks, as the theorems say them that tell exactly when each decision is given (01, "Joining"; proofs/Depends.antt).
+-- The conditions of a Join's checks (01, "Joining"), by themselves: the theorems of proofs/Depends.antt use them to say exactly when each decision is given.
 use Prim.Native.Nat.{ℕ}
 use mathlib.Core.Bool.{Bool, true, false}
 use mathlib.Core.Logic.{_≢_}

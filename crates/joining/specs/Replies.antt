@@ -16,17 +16,18 @@ memberAt t r = record { leader = t .owner; channel = t .channel; mid = t .mid; r
 unfoldable pub askedAt : Cid → Join → Reliable → Membership
 askedAt owner j r = record { leader = owner; channel = j .channel; mid = j .mid; reliable = r }
 
--- the Join Refuse of a Join that is turned down names it by its own numbers
+-- a Join Refuse carries the Join's own channel, MID and reliable number, and the reason
 unfoldable pub joinRefuseOf : Cid → Join → ℕ → Message
 joinRefuseOf owner j reason = message.JoinRefuse (askedAt owner j (j .reliable)) reason
 
--- the answer to a Join that is taken says what was processed last, and where we answer
+-- a Join Accept carries the last reliable number processed and the channel on which we answer
 unfoldable pub acceptance : Cid → Join → Reliable → ℕ → Message
 acceptance owner j r reciprocal = message.JoinAccept (askedAt owner j r) reciprocal
 
--- whoever leaves says up to where it has followed
+-- a Leaving carries R, the last reliable number processed, and the reason
 unfoldable pub departure : Terms → Reliable → ℕ → Message
 departure t r reason = message.Leaving (memberAt t r) reason
 
+-- a NAK carries R and asks for the numbers from `first` to `last`
 unfoldable pub missing : Terms → Reliable → Reliable → Reliable → Message
 missing t r first last = message.Nak (memberAt t r) first last

@@ -70,3 +70,7 @@ look (r ∷ rs) v a = cond (eqb v (r .vector) && eqb a (r .address)) (r .len) (l
 
 unfoldable pub lengthOf : ℕ → ℕ → ℕ
 lengthOf v a = look rows v a
+
+-- wrapper contents are at most 1,454 octets (01, "Room")
+abbrev pub mostContents : ℕ
+mostContents = 1454

@@ -128,6 +128,9 @@ pub const ADDRESS_NULL: u8 = 0;
 
 pub const ADDRESS_IPV4: u8 = 1;
 
+// Wrapper contents are at most this many octets.
+pub const MOST_CONTENTS: usize = 1454;
+
 // A row of the table: a message's vector, the type of its address (null if it has none), and the exact length of its data.
 pub struct Row {
     pub vector: u8,

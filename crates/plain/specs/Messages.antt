@@ -1,4 +1,4 @@
--- A message as a struct of numbers for C, and back. Which field holds what, message by message, is `plainOf`.
+-- A message as a struct of numbers for C (01, "Room": "with numbers and octets only"), and back. Which field holds what, message by message, is `plainOf`.
 use Prim.Native.Nat.{ℕ}
 use mathlib.Core.Bool.{cond}
 use lib.Dec.{eqb}

@@ -1,5 +1,5 @@
 -- A search for the lowest: of the elements of a list, counted from a number on, the first that passes a test. The lowest free record and the lowest free place
--- (01, "Joining" and "One channel") and the other searches over a table's records and a record's places are this one.
+-- (01, "Room": "the lowest free one is taken") and the other searches over a table's records and a record's places are this one.
 use Prim.Native.Nat.{ℕ, _+_, _<_}
 use mathlib.Core.Bool.{Bool, true, false, cond}
 use mathlib.Core.List.{List, [], _∷_}

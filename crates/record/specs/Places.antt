@@ -1,4 +1,4 @@
--- A record's places by their number.
+-- A record's four places by their number (01, "Room" and "One channel", held wrappers).
 use Prim.Native.Nat.{ℕ}
 use mathlib.Core.Bool.{false}
 use mathlib.Core.List.{List}

@@ -1,5 +1,6 @@
 -- When a record is well formed (01, "One channel", its last paragraph). That used records differ in owner and channel is the table's part.
-use Prim.Native.Nat.{ℕ, _*_}
+pub use Rattle.message.specs.Lengths.{mostContents}
+use Prim.Native.Nat.{_*_}
 use mathlib.Core.Bool.{Bool, true, cond, not, _&&_}
 use mathlib.Core.List.{List, [], _∷_}
 use lib.Dec.{ltb, leb, eqb}
@@ -14,10 +15,6 @@ use Rattle.record.specs.declared.Gap.the-variants as gap
 use Rattle.record.specs.declared.Place.{Place}
 use Rattle.record.specs.declared.Terms.{Terms}
 use Rattle.record.specs.declared.Record.{Record}
-
--- wrapper contents are at most 1,454 octets (01, "Room")
-abbrev pub mostContents : ℕ
-mostContents = 1454
 
 -- a held number is two or more ahead of R and not past K, with contents of at most 1,454 octets
 unfoldable pub heldRight : Reliable → Reliable → Place → Bool

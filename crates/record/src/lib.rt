@@ -10,6 +10,7 @@ use counter::Total;
 use counter::reliable_distance;
 use counter::same_reliable;
 use message::Cid;
+use message::MOST_CONTENTS;
 
 // The phase of a gap, with its time left in milliseconds and the number of NAKs sent.
 pub enum Gap {
@@ -73,9 +74,6 @@ const MIN_EXPIRY_TIME: u8 = 2;
 const NAK_TIMEOUT_FACTOR: u32 = 100;
 
 const NAK_MAX_RETRIES: u8 = 3;
-
-// Wrapper contents are at most this many octets.
-pub const MOST_CONTENTS: usize = 1454;
 
 pub fn max_retries() -> u8
     ensures { λ r. ⌜ r ≡ maxRetries ⌝ }

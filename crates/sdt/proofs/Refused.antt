@@ -4,9 +4,7 @@
 use Prim.Native.Nat.{ℕ}
 use mathlib.Core.Path.{_≡_, refl}
 use mathlib.Core.Logic.{_≢_}
-use mathlib.Core.Bool.{cond}
 use mathlib.Core.List.{List}
-use lib.Dec.{eqb}
 use Rattle.block.specs.Block.{nothing, readBlock}
 use Rattle.block.specs.Cursor.{start, openBlock, nextMessage}
 use Rattle.block.specs.declared.Cursor.{Cursor}
@@ -27,7 +25,7 @@ use Rattle.plain.specs.Messages.{noMessage, typedOf}
 use Rattle.plain.specs.declared.Plain.{Plain}
 use Rattle.plain.specs.declared.Typed.{Typed}
 use Rattle.plain.specs.declared.Typed.the-variants as typed
-use Rattle.sdt.specs.Blocks.{ok, blockAnswer, openAnswer, nextAnswer}
+use Rattle.sdt.specs.Blocks.{badWith, ok, blockAnswer, openAnswer, nextAnswer}
 use Rattle.sdt.specs.Messages.{messageAnswer, writeAnswer, answerTyped, roomTyped, writtenAnswer, writtenRoom}
 use Rattle.sdt.specs.Allowed.{SdtReadBlockAllows, SdtOpenBlockAllows, SdtNextMessageAllows, SdtReadMessageAllows, SdtWriteEnds, SdtWriteMessageAllows}
 use Rattle.sdt.specs.declared.BlockAnswer.{BlockAnswer}
@@ -36,14 +34,10 @@ use Rattle.sdt.specs.declared.NextAnswer.{NextAnswer}
 use Rattle.sdt.specs.declared.MessageAnswer.{MessageAnswer}
 use Rattle.sdt.specs.declared.WriteAnswer.{WriteAnswer}
 
--- the place that an answer of this outcome gives: that of the bad PDU with 11, and else 0
-abbrev pub placed : ℕ → ℕ → ℕ
-placed outcome bad = cond (eqb outcome 11) bad 0
-
 -- ---- blocks
 
 block-alone : (a : BlockRead) → blockAnswer a .outcome ≢ ok
-    → blockAnswer a ≡ record { outcome = blockAnswer a .outcome; found = nothing; bad = placed (blockAnswer a .outcome) (blockAnswer a .bad) }
+    → blockAnswer a ≡ record { outcome = blockAnswer a .outcome; found = nothing; bad = badWith (blockAnswer a .outcome) (blockAnswer a .bad) }
 unfolding blockAnswer
 block-alone (read.Message found) h = absurd (h refl)
 block-alone read.Fewer h = refl
@@ -51,18 +45,18 @@ block-alone read.TooLong h = refl
 block-alone (read.Malformed bad) h = refl
 
 pub read-block-refused : (s : List ℕ) (position : ℕ) (a : BlockAnswer) → SdtReadBlockAllows s position a → a .outcome ≢ ok
-    → a ≡ record { outcome = a .outcome; found = nothing; bad = placed (a .outcome) (a .bad) }
+    → a ≡ record { outcome = a .outcome; found = nothing; bad = badWith (a .outcome) (a .bad) }
 read-block-refused s position a e = rw e (block-alone (readBlock s position))
 
 open-alone : (a : Opened) → openAnswer a .outcome ≢ ok
-    → openAnswer a ≡ record { outcome = openAnswer a .outcome; count = 0; cursor = start; bad = placed (openAnswer a .outcome) (openAnswer a .bad) }
+    → openAnswer a ≡ record { outcome = openAnswer a .outcome; count = 0; cursor = start; bad = badWith (openAnswer a .outcome) (openAnswer a .bad) }
 unfolding openAnswer
 open-alone (opened.Messages count cursor) h = absurd (h refl)
 open-alone opened.TooLong h = refl
 open-alone (opened.Malformed bad) h = refl
 
 pub open-block-refused : (s : List ℕ) (a : OpenAnswer) → SdtOpenBlockAllows s a → a .outcome ≢ ok
-    → a ≡ record { outcome = a .outcome; count = 0; cursor = start; bad = placed (a .outcome) (a .bad) }
+    → a ≡ record { outcome = a .outcome; count = 0; cursor = start; bad = badWith (a .outcome) (a .bad) }
 open-block-refused s a e = rw e (open-alone (openBlock s))
 
 -- reading on refuses nothing; where there is no message, the cursor stays as it was given

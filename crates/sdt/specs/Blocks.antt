@@ -1,5 +1,7 @@
 -- What C is answered when it reads blocks: 01's number and values for each answer of `block`, as a struct of numbers.
 use Prim.Native.Nat.{ℕ}
+use mathlib.Core.Bool.{cond}
+use lib.Dec.{eqb}
 use Rattle.block.specs.Block.{nothing, numberOf as readNumber}
 use Rattle.block.specs.Cursor.{start, numberOf as openedNumber}
 use Rattle.block.specs.declared.Cursor.{Cursor}
@@ -13,13 +15,17 @@ use Rattle.sdt.specs.declared.BlockAnswer.{BlockAnswer}
 use Rattle.sdt.specs.declared.OpenAnswer.{OpenAnswer}
 use Rattle.sdt.specs.declared.NextAnswer.{NextAnswer}
 
--- an outcome is 01's number of a refusal, or one of these: a message, or done; no such message; a cursor of another block
+-- ---- outcomes: 01's number of a refusal, or one of these (100 and 101 are ours: docs/DECISIONS.md, "What C sees")
+
+-- nothing is refused
 abbrev pub ok : ℕ
 ok = 0
 
+-- the block has no message at this position, or no further one
 abbrev pub fewer : ℕ
 fewer = 100
 
+-- the cursor cannot be one of this block's
 abbrev pub astray : ℕ
 astray = 101
 
@@ -39,3 +45,7 @@ unfoldable pub nextAnswer : Cursor → Next → NextAnswer
 nextAnswer c (next.Message found cursor) = record { outcome = ok; found = found; cursor = cursor }
 nextAnswer c next.End = record { outcome = fewer; found = nothing; cursor = c }
 nextAnswer c next.Astray = record { outcome = astray; found = nothing; cursor = c }
+
+-- the place that stands in an answer of this outcome: that of the bad PDU with 11, and else 0
+abbrev pub badWith : ℕ → ℕ → ℕ
+badWith outcome bad = cond (eqb outcome 11) bad 0

@@ -16,7 +16,7 @@ use Rattle.record.specs.declared.Record.{Record}
 use Rattle.table.specs.declared.Found.{Found}
 use Rattle.table.specs.declared.Found.the-variants as search
 
--- two CIDs are one
+-- two CIDs are the same
 unfoldable pub same : Cid → Cid → Bool
 same a b = eqb (a .high) (b .high) && eqb (a .low) (b .low)
 
@@ -82,6 +82,6 @@ freeTable = replicate 8 (blank (replicate 4 noPlace))
 
 -- ---- a record by its place
 
--- past the table stands a free record; it has no places, as lists of records end so in the logic
+-- record i. Past the end of the table a free record is read, with no places: so it is fixed by the logic what is read there, though no code reads there
 abbrev pub recordAt : List Record → ℕ → Record
 recordAt ts i = getD ts i (blank [])

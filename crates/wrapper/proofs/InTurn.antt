@@ -27,7 +27,7 @@ use Rattle.wrapper.specs.Release.{nextHeld, passes, releaseBy, releaseAt
 use Rattle.wrapper.specs.Settle.{lost, begun, gapped, asked, spared, acknowledged, settled}
 use Rattle.wrapper.specs.Taken.{taken}
 use Rattle.wrapper.specs.Since.{Since}
-use Rattle.wrapper.specs.InTurn.{Delivery, itself, heldIn, deliveries, InTurn}
+use Rattle.wrapper.specs.InTurn.{Delivery, itself, heldIn, deliveries, InTurnTo}
 use Rattle.wrapper.specs.declared.Arrived.{Arrived}
 use Rattle.wrapper.specs.declared.Fate.the-variants as fate
 use Rattle.wrapper.specs.declared.Gapped.{Gapped}
@@ -45,9 +45,9 @@ use Rattle.wrapper.proofs.ReleaseIsDone.{since-start, since-more, untou
 -- ---- deliveries
 
 -- one more in turn behind the others
-one-more-in-turn : (t : Total) (n : Reliable) (ds : List Delivery) (u : Total) (m : Reliable) (d : Delivery) → InTurn t n ds u m
+one-more-in-turn : (t : Total) (n : Reliable) (ds : List Delivery) (u : Total) (m : Reliable) (d : Delivery) → InTurnTo t n ds u m
     → distance (m .0) (d .reliable .0) ≡ pos (cond (d .reliably) 1 0) → leZ (pos 1) (distance (u .0) (d .total .0)) ≡ true
-    → InTurn t n (ds ++ (d ∷ [])) (d .total) (d .reliable)
+    → InTurnTo t n (ds ++ (d ∷ [])) (d .total) (d .reliable)
 one-more-in-turn t n [] u m d c e f = (rw (c .1) e, rw (c .0) f, (refl, refl))
 one-more-in-turn t n (b ∷ ds) u m d c e f = (c .0, c .1, one-more-in-turn (b .total) (b .reliable) ds u m d (c .2) e f)
 
@@ -87,7 +87,7 @@ passes-fresh Inconsistent e = absurd (false≢true e)
 
 module _ (r : Record) (w : Arrived) where
   placed-in-turn : leZ (pos 1) (distance (r .total .0) (w .total .0)) ≡ true
-      → InTurn (r .total) (r .reliable) (itself (placed r w .fate) w) (placed r w .after .total) (placed r w .after .reliable)
+      → InTurnTo (r .total) (r .reliable) (itself (placed r w .fate) w) (placed r w .after .total) (placed r w .after .reliable)
   unfolding placed nextOne
   placed-in-turn f = by (nextOne r w) refl (placeFor w (r .places))
     where
@@ -95,7 +95,7 @@ module _ (r : Record) (w : Arrived) where
       delivered = record { after = withNumbers r (w .total) (w .reliable); fate = fate.Delivered }
 
       by : (b : Bool) → is (cond (w .reliably) 1 0) (distance (r .reliable .0) (w .reliable .0)) ≡ b → (g : Search)
-          → InTurn (r .total) (r .reliable) (itself (cond b delivered (putIn r w g) .fate) w) (cond b delivered (putIn r w g) .after .total)
+          → InTurnTo (r .total) (r .reliable) (itself (cond b delivered (putIn r w g) .fate) w) (cond b delivered (putIn r w g) .after .total)
           (cond b delivered (putIn r w g) .after .reliable)
       by true e g = (is-number (cond (w .reliably) 1 0) (distance (r .reliable .0) (w .reliable .0)) e, f, (refl, refl))
       by false e (At i) = (refl, refl)
@@ -108,7 +108,7 @@ module _ (r : Record) (four : length (r .places) ≡ 4) (t : Total) (n : Reliabl
   so-far s = ds ++ map (heldIn (r .places)) (take (s .count) (s .order))
 
   abbrev So-far : Released → Type 0
-  So-far s = InTurn t n (so-far s) (s .after .total) (s .after .reliable)
+  So-far s = InTurnTo t n (so-far s) (s .after .total) (s .after .reliable)
 
   module _
       (s : Released)
@@ -141,7 +141,7 @@ module _ (r : Record) (four : length (r .places) ≡ 4) (t : Total) (n : Reliabl
       → Since r (releaseAt s i) × So-far (releaseAt s i)
   in-turn-more s i e h = (since-more r four s i e (h .0), rw (release-is s i) (in-turn-by s i e (h .0) (h .1) (passing s i) refl))
 
-  pub released-in-turn : InTurn t n ds (r .total) (r .reliable) → So-far (released r)
+  pub released-in-turn : InTurnTo t n ds (r .total) (r .reliable) → So-far (released r)
   unfolding released
   released-in-turn h = along (λ s. Since r s × So-far s) in-turn-more 4 _ (since-start r, rw (append-nil ds) h) .1
 
@@ -202,7 +202,7 @@ as-many-places r w =
     by Nowhere = refl
 
 pub in-turn : (r : Record) (w : Arrived) → length (r .places) ≡ 4 → judged r (w .reliably) (w .total) (w .reliable) ≡ Fresh
-    → InTurn (r .total) (r .reliable) (deliveries r w) (taken r w .after .total) (taken r w .after .reliable)
+    → InTurnTo (r .total) (r .reliable) (deliveries r w) (taken r w .after .total) (taken r w .after .reliable)
 unfolding taken heard
 in-turn r w four fresh =
     let h = heard r (w .reliable) in

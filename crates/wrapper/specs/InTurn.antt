@@ -44,9 +44,9 @@ deliveries r w =
 
 -- from T = t and R = n the deliveries come in turn, and leave T = u and R = m: each reliable one is at distance 1 from R as it is then and an unreliable one
 -- at distance 0, and each total number is at distance 1 or more from T as it is then
-abbrev pub InTurn : Total → Reliable → List Delivery → Total → Reliable → Type 0
-InTurn t n [] u m = (t ≡ u) × (n ≡ m)
-InTurn t n (d ∷ ds) u m =
+abbrev pub InTurnTo : Total → Reliable → List Delivery → Total → Reliable → Type 0
+InTurnTo t n [] u m = (t ≡ u) × (n ≡ m)
+InTurnTo t n (d ∷ ds) u m =
     (distance (n .0) (d .reliable .0) ≡ pos (cond (d .reliably) 1 0))
     × (leZ (pos 1) (distance (t .0) (d .total .0)) ≡ true)
-    × InTurn (d .total) (d .reliable) ds u m
+    × InTurnTo (d .total) (d .reliable) ds u m

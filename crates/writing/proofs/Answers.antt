@@ -10,10 +10,10 @@ use lib.Dec.{ltb}
 use borrow.Author.Tests.{ltb-true, ltb-false, lt-ltb, le-ltb}
 use Rattle.octets.specs.Octets.{octets, splice}
 use Rattle.block.specs.Written.{head}
-use Rattle.message.specs.Lengths.{lengthOf}
+use Rattle.message.specs.Lengths.{lengthOf, mostContents}
 use Rattle.message.specs.declared.Message.{Message}
 use Rattle.writing.specs.Fields.{fieldsOf}
-use Rattle.writing.specs.Writing.{most, vectorOf, formOf, hasForm, carriedOf, contentsOf, pduOf, wrote, leaves, roomAfter}
+use Rattle.writing.specs.Writing.{vectorOf, formOf, hasForm, carriedOf, contentsOf, pduOf, wrote, leaves, roomAfter}
 use Rattle.writing.specs.Allowed.{WriteMessageAllows}
 use Rattle.writing.specs.declared.Form.{Form}
 use Rattle.writing.specs.declared.Wrote.{Wrote}
@@ -26,8 +26,8 @@ module _ (m : Message) (c r : List ℕ) where
   pub data Answer : Wrote → Type 0 where
     formless : hasForm m ≡ false → Answer NoForm
     short : hasForm m ≡ true → length r < length (pduOf m c) → Answer NoRoom
-    over : hasForm m ≡ true → length (pduOf m c) ≤ length r → most < length (contentsOf m c) → Answer ContentsOver
-    whole : hasForm m ≡ true → length (pduOf m c) ≤ length r → length (contentsOf m c) ≤ most → Answer (Octets (length (pduOf m c)))
+    over : hasForm m ≡ true → length (pduOf m c) ≤ length r → mostContents < length (contentsOf m c) → Answer ContentsOver
+    whole : hasForm m ≡ true → length (pduOf m c) ≤ length r → length (contentsOf m c) ≤ mostContents → Answer (Octets (length (pduOf m c)))
 
   -- what it takes decides it
   pub answer-is : {w : Wrote} → Answer w → wrote m c r ≡ w
@@ -42,9 +42,9 @@ module _ (m : Message) (c r : List ℕ) where
 
   -- one of the four it always is
   pub answer : Answer (wrote m c r)
-  answer = by (hasForm m) (ltb (length r) (length (pduOf m c))) (ltb most (length (contentsOf m c))) refl refl refl
+  answer = by (hasForm m) (ltb (length r) (length (pduOf m c))) (ltb mostContents (length (contentsOf m c))) refl refl refl
     where
-      by : (f s o : Bool) → hasForm m ≡ f → ltb (length r) (length (pduOf m c)) ≡ s → ltb most (length (contentsOf m c)) ≡ o
+      by : (f s o : Bool) → hasForm m ≡ f → ltb (length r) (length (pduOf m c)) ≡ s → ltb mostContents (length (contentsOf m c)) ≡ o
           → Answer (wrote m c r)
       by false s o fe se oe = taken (formless fe)
       by true true o fe se oe = taken (short fe (ltb-true _ _ se))
@@ -94,14 +94,14 @@ module _ (m : Message) (form : Form) (len : ℕ) (e : form ≡ formOf m) (l : le
       no-room-answered h = ends m c r (short (formed .0) (omega (arith, size-is))) refl refl
 
       module _ (h : 3 + len + more ≤ length r) where
-        pub over-answered : most < more → WriteMessageAllows m c r (record { answer = ContentsOver; room = r })
+        pub over-answered : mostContents < more → WriteMessageAllows m c r (record { answer = ContentsOver; room = r })
         over-answered o = ends m c r (over (formed .0) (omega (arith, size-is)) (omega (arith, contents-length m c))) refl refl
 
         body-is : 3 + len + more ≡ 3 + length (fieldsOf m ++ contentsOf m c)
         body-is = omega (arith, length-append (fieldsOf m) (contentsOf m c), contents-length m c, formed .1)
 
         -- s, t and u are the room after the head, the fields and the contents
-        pub whole-answered : (s t u p : List ℕ) (size at : ℕ) → more ≤ most → size ≡ 3 + len + more → at ≡ 3 + len → p ≡ take more c
+        pub whole-answered : (s t u p : List ℕ) (size at : ℕ) → more ≤ mostContents → size ≡ 3 + len + more → at ≡ 3 + len → p ≡ take more c
             → s ≡ splice r 0 (head size (form .vector))
             → t ≡ splice s 3 (fieldsOf m)
             → u ≡ splice t at p

@@ -9,8 +9,9 @@ use mathlib.Core.List.{List}
 use lib.ListN.{length, drop}
 use lib.Seq.{drop-at}
 use Rattle.octets.specs.Octets.{splice}
+use Rattle.message.specs.Lengths.{mostContents}
 use Rattle.message.specs.declared.Message.{Message}
-use Rattle.writing.specs.Writing.{most, hasForm, contentsOf, pduOf, wrote, leaves, roomAfter}
+use Rattle.writing.specs.Writing.{hasForm, contentsOf, pduOf, wrote, leaves, roomAfter}
 use Rattle.writing.specs.declared.Wrote.{Wrote}
 use Rattle.writing.specs.declared.Wrote.the-variants.{Octets, NoForm, NoRoom, ContentsOver}
 use Rattle.writing.proofs.Answers.{Answer, formless, short, over, whole, answer-is, answer}
@@ -39,10 +40,10 @@ module _ (m : Message) (c r : List ℕ) where
       why (short f h) = (f, h)
 
   -- 7 exactly if neither 4 nor 1 is given and the contents are over 1,454
-  pub contents-over : wrote m c r ≡ ContentsOver ↔ (hasForm m ≡ true) × (length (pduOf m c) ≤ length r) × (most < length (contentsOf m c))
+  pub contents-over : wrote m c r ≡ ContentsOver ↔ (hasForm m ≡ true) × (length (pduOf m c) ≤ length r) × (mostContents < length (contentsOf m c))
   contents-over = (λ e. why (given ContentsOver e), λ f. answer-is m c r (over (f .0) (f .1) (f .2)))
     where
-      why : Answer m c r ContentsOver → (hasForm m ≡ true) × (length (pduOf m c) ≤ length r) × (most < length (contentsOf m c))
+      why : Answer m c r ContentsOver → (hasForm m ≡ true) × (length (pduOf m c) ≤ length r) × (mostContents < length (contentsOf m c))
       why (over f h o) = (f, h, o)
 
   -- a refusal, which is every answer but a number of octets, leaves the room as it was

@@ -1,4 +1,4 @@
--- A message of the machine: each field is a number of its width. (Definitions are over all numbers, so theorems that read octets back say
+-- A message of the machine: each field is a number of the width that its layout gives it (01, "Blocks and layouts"). (Definitions are over all numbers, so theorems that read octets back say
 -- this of the message; for a message that code holds it is so by its types.)
 use Prim.Native.Nat.{ℕ, _^_, _<_}
 use Rattle.message.specs.declared.Cid.{Cid}

@@ -6,7 +6,7 @@ use lib.ListN.{length, take}
 use lib.Dec.{ltb}
 use Rattle.octets.specs.Octets.{splice}
 use Rattle.block.specs.Written.{pdu}
-use Rattle.message.specs.Lengths.{reliableWrapper, unreliableWrapper, join, joinRefuse, joinAccept, leaving, ack, nak, getSessions, null, ipv4}
+use Rattle.message.specs.Lengths.{reliableWrapper, unreliableWrapper, join, joinRefuse, joinAccept, leaving, ack, nak, getSessions, null, ipv4, mostContents}
 use Rattle.message.specs.declared.Address.{Address}
 use Rattle.message.specs.declared.Address.the-variants as address
 use Rattle.message.specs.declared.Message.{Message}
@@ -15,10 +15,6 @@ use Rattle.writing.specs.Fields.{fieldsOf}
 use Rattle.writing.specs.declared.Form.{Form}
 use Rattle.writing.specs.declared.Wrote.{Wrote}
 use Rattle.writing.specs.declared.Wrote.the-variants.{Octets, NoForm, NoRoom, ContentsOver}
-
--- wrapper contents are at most 1,454 octets (01, "Room")
-abbrev pub most : ℕ
-most = 1454
 
 unfoldable pub vectorOf : Message → ℕ
 vectorOf (message.ReliableWrapper w) = reliableWrapper
@@ -80,7 +76,7 @@ unfoldable pub wrote : Message → List ℕ → List ℕ → Wrote
 wrote m c r =
     cond (not (hasForm m)) NoForm
     (cond (ltb (length r) (length (pduOf m c))) NoRoom
-    (cond (ltb most (length (contentsOf m c))) ContentsOver
+    (cond (ltb mostContents (length (contentsOf m c))) ContentsOver
     (Octets (length (pduOf m c)))))
 
 -- 01's number for what writing a message answers; 0 if it is written

@@ -11,6 +11,7 @@ ghost use Rattle.writing.specs.Allowed.{WriteMessageAllows};
 use message::Address;
 use message::Cid;
 use message::Join;
+use message::MOST_CONTENTS;
 use message::Membership;
 use message::Message;
 use message::Parameters;
@@ -35,9 +36,6 @@ pub enum Wrote {
     NoRoom,
     ContentsOver,
 }
-
-// Wrapper contents are at most this many octets.
-const MOST: usize = 1454;
 
 fn type_of(address: Address) -> u8
     ensures { λ r. ⌜ r ≡ typeOf address ⌝ }
@@ -283,7 +281,7 @@ pub fn write_message(m: Message, contents: &[u8], room: &mut [u8]) -> Wrote
     if room.len() - end < more {
         return Wrote::NoRoom;
     }
-    if MOST < more {
+    if MOST_CONTENTS < more {
         return Wrote::ContentsOver;
     }
     let size = end + more;

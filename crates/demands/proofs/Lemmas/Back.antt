@@ -13,8 +13,9 @@ use borrow.Author.Tests.{le-ltb, le-leb}
 use Rattle.octets.specs.Octets.{octets}
 use Rattle.octets.proofs.Numbers.{number-octets}
 use Rattle.octets.proofs.Writes.{part-splice}
-use Rattle.block.proofs.Together.{Alone, one-written}
-use Rattle.message.specs.Lengths.{join, look, lengthOf}
+use Rattle.block.specs.Written.{Alone}
+use Rattle.block.proofs.Together.{one-written}
+use Rattle.message.specs.Lengths.{join, look, lengthOf, mostContents}
 use Rattle.message.specs.Layouts.{cidAt, membershipOf, wrapperOf, parametersAt, endpointAt, addressOf, joinOf}
 use Rattle.message.specs.Reading.{readableJoin, readable, fixedOf, messageOf, readMessage}
 use Rattle.message.specs.declared.Cid.{Cid}
@@ -30,7 +31,7 @@ use Rattle.message.specs.declared.Message.the-variants as message
 use Rattle.message.specs.declared.MessageRead.the-variants.{Read}
 use Rattle.writing.specs.Fields.{cidOctets, membershipOctets, wrapperOctets, parametersOctets, addressOctets, joinOctets, fieldsOf}
 use Rattle.writing.specs.Fits.{FitCid, FitMembership, FitWrapper, FitParameters, FitEndpoint, FitAddress, FitJoin, Fits}
-use Rattle.writing.specs.Writing.{most, vectorOf, addressOf as addressType, hasForm, carriedOf, contentsOf, pduOf, wrote, roomAfter}
+use Rattle.writing.specs.Writing.{vectorOf, addressOf as addressType, hasForm, carriedOf, contentsOf, pduOf, wrote, roomAfter}
 use Rattle.writing.specs.declared.Wrote.the-variants.{Octets}
 
 -- ---- the layouts: each with any octets behind it, and the parameters, which end a Join, with any before them
@@ -183,7 +184,7 @@ module _ (m : Message) (c : List ℕ) where
   unfolding pduOf octets
   length-behind-head = omega arith
 
-  module _ (contents : length (contentsOf m c) ≤ most) where
+  module _ (contents : length (contentsOf m c) ≤ mostContents) where
     pub alone : Alone (vectorOf m) (fieldsOf m ++ contentsOf m c)
     alone =
         one-written (vectorOf m) (fieldsOf m ++ contentsOf m c) (short m .0)
@@ -192,7 +193,7 @@ module _ (m : Message) (c : List ℕ) where
     module _ (r : List ℕ) (form : hasForm m ≡ true) (room : length (pduOf m c) ≤ length r) where
       pub not-refused : wrote m c r ≡ Octets (length (pduOf m c))
       unfolding wrote
-      not-refused = rw (form, le-ltb (length r) (length (pduOf m c)) room, le-ltb most (length (contentsOf m c)) contents)
+      not-refused = rw (form, le-ltb (length r) (length (pduOf m c)) room, le-ltb mostContents (length (contentsOf m c)) contents)
 
       -- what stands at the room's front
       pub in-room : take (length (pduOf m c)) (roomAfter m c r) ≡ pduOf m c
