@@ -2,29 +2,29 @@
 // now. With no file it is standard input. A file is read as it comes and never held whole.
 mod lines;
 
-use forms::OCTETS;
-use forms::SAID;
-use forms::VALUES;
+use case_forms::OCTETS;
+use case_forms::SAID;
+use case_forms::VALUES;
+use case_rooms::lent::HELD;
+use case_rows::ROWS;
+use case_stream::report::LINE;
+use case_stream::report::OUT;
+use case_stream::report::State;
+use case_stream::report::first_state;
+use case_stream::report::flush;
+use case_stream::report::pass_on;
+use case_stream::report::tally;
+use case_stream::source::BUFFER;
+use case_stream::source::Source;
+use case_stream::source::Turn;
+use case_stream::source::first_source;
+use case_stream::source::turn_on;
+use case_text::is_same;
+use case_text::part;
 use libc::STDERR_FILENO;
 use lines::take_end;
 use lines::take_line;
 use lines::take_long_line;
-use rooms::lent::HELD;
-use rows::ROWS;
-use stream::report::LINE;
-use stream::report::OUT;
-use stream::report::State;
-use stream::report::first_state;
-use stream::report::flush;
-use stream::report::pass_on;
-use stream::report::tally;
-use stream::source::BUFFER;
-use stream::source::Source;
-use stream::source::Turn;
-use stream::source::first_source;
-use stream::source::turn_on;
-use text::is_same;
-use text::part;
 
 // What one turn of the source found.
 fn take_turn(
