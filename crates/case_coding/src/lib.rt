@@ -5,15 +5,26 @@ use case_forms::OCTETS;
 use case_forms::OURS_MOST;
 use case_forms::SAID;
 use case_forms::VALUES;
+use case_forms::kinds::FEWER;
+use case_forms::kinds::FOUND;
+use case_forms::kinds::GIVEN;
 use case_forms::kinds::JOIN;
+use case_forms::kinds::MALFORMED;
 use case_forms::kinds::NULL;
+use case_forms::kinds::READ;
 use case_forms::kinds::RELIABLE;
+use case_forms::kinds::WRITE;
+use case_forms::kinds::WROTE;
+use case_forms::saying::end_line;
 use case_forms::saying::put_kind;
+use case_forms::saying::put_numbers;
+use case_forms::saying::say_numbers;
+use case_forms::saying::say_octets;
+use case_forms::saying::say_plain;
 use case_forms::value_at;
 use case_rooms::Fault;
 use case_rooms::Piece;
 use case_rooms::Ran;
-use case_rooms::end_line;
 use case_rooms::fault_in;
 use case_rooms::lent::FILL;
 use case_rooms::lent::ROOM;
@@ -28,52 +39,58 @@ use case_rows::messages::message_of;
 use case_rows::messages::values_of;
 use case_rows::word;
 use case_text::part;
-use case_text::put;
-use case_text::put_decimal;
-use case_text::put_octets;
 use message::MessageRead;
 use writing::Wrote;
 
 fn say_found(f: Found, said: &mut [u8; SAID]) -> usize {
-    let a = put(said, 0, b"= message vector ");
-    let b = put_decimal(said, a, f.vector as u64);
-    let c = put(said, b, b" data ");
-    let d = put_decimal(said, c, f.place as u64);
-    let e = put(said, d, b" length ");
-    let end = put_decimal(said, e, f.len as u64);
-    end_line(said, end)
+    say_numbers(
+        FOUND,
+        f.vector as u64,
+        f.place as u64,
+        f.len as u64,
+        said,
+        0,
+    )
 }
 
-fn say_block(values: &[u64; VALUES], octets: &[u8; OCTETS], said: &mut [u8; SAID]) -> usize {
-    let block = part(octets, OURS_MOST, value_at(values, 1) as usize);
-    match block::read_block(block, word(value_at(values, 0))) {
+fn say_block(read: BlockRead, said: &mut [u8; SAID]) -> usize {
+    match read {
         BlockRead::Message(f) => say_found(f, said),
-        BlockRead::Fewer => put(said, 0, b"= fewer\n"),
+        BlockRead::Fewer => say_plain(FEWER, said, 0),
         BlockRead::TooLong => say_refused(said, 1),
-        BlockRead::Malformed(at) => {
-            let head = put(said, 0, b"= refused 11 at ");
-            let end = put_decimal(said, head, at as u64);
-            end_line(said, end)
-        }
+        BlockRead::Malformed(at) => say_numbers(MALFORMED, at as u64, 0, 0, said, 0),
     }
+}
+
+// The octets of a line up to their end.
+fn octets_to(octets: &[u8; OCTETS], end: u64) -> &[u8] {
+    part(octets, OURS_MOST, end as usize)
+}
+
+// The address of a Join.
+fn put_address(values: &[u64; VALUES], said: &mut [u8; SAID], at: usize) -> usize {
+    let address = (value_at(values, ADDRESS_AT) % 3) as u8;
+    put_kind(NULL + address, values, ADDRESS_AT + 1, b"", said, at)
+}
+
+fn put_behind(kind: u8, values: &[u64; VALUES], said: &mut [u8; SAID], at: usize) -> usize {
+    if kind == JOIN {
+        return put_address(values, said, at);
+    }
+    at
 }
 
 // A message with its values. A wrapper's contents are its data past the first 20 octets.
 fn say_message(kind: u8, values: &[u64; VALUES], body: &[u8], said: &mut [u8; SAID]) -> usize {
     let contents = part(body, 20, body.len());
-    let at = put(said, 0, b"=");
-    let end = put_kind(kind, values, MESSAGE_AT, contents, said, at);
-    if kind != JOIN {
-        return end_line(said, end);
-    }
-    let address = (value_at(values, ADDRESS_AT) % 3) as u8;
-    let last = put_kind(NULL + address, values, ADDRESS_AT + 1, b"", said, end);
-    end_line(said, last)
+    let head = put_numbers(GIVEN, 0, 0, 0, said, 0);
+    let own = put_kind(kind, values, MESSAGE_AT, contents, said, head);
+    let end = put_behind(kind, values, said, own);
+    end_line(said, end)
 }
 
-fn say_read(values: &[u64; VALUES], octets: &[u8; OCTETS], said: &mut [u8; SAID]) -> usize {
-    let body = part(octets, OURS_MOST, value_at(values, 1) as usize);
-    let MessageRead::Read(m) = message::read_message(byte(value_at(values, 0)), body) else {
+fn say_read(vector: u8, body: &[u8], said: &mut [u8; SAID]) -> usize {
+    let MessageRead::Read(m) = message::read_message(vector, body) else {
         return say_refused(said, 4);
     };
     let mut fields = [0u64; VALUES];
@@ -81,14 +98,15 @@ fn say_read(values: &[u64; VALUES], octets: &[u8; OCTETS], said: &mut [u8; SAID]
     say_message(kind, &fields, body, said)
 }
 
+fn say_written(room: &mut [u8; ROOM], len: usize, said: &mut [u8; SAID]) -> usize {
+    let end = say_octets(WROTE, 0, 0, part(room, 0, len), said, 0);
+    wipe(room, 0, len);
+    end
+}
+
 fn say_wrote(wrote: Wrote, room: &mut [u8; ROOM], said: &mut [u8; SAID]) -> usize {
     match wrote {
-        Wrote::Octets(len) => {
-            let head = put(said, 0, b"= wrote ");
-            let end = put_octets(said, head, part(room, 0, len));
-            wipe(room, 0, len);
-            end_line(said, end)
-        }
+        Wrote::Octets(len) => say_written(room, len, said),
         Wrote::NoForm => say_refused(said, 4),
         Wrote::NoRoom => say_refused(said, 1),
         Wrote::ContentsOver => say_refused(said, 7),
@@ -96,7 +114,7 @@ fn say_wrote(wrote: Wrote, room: &mut [u8; ROOM], said: &mut [u8; SAID]) -> usiz
 }
 
 // The octets of the line are the contents of a wrapper.
-pub fn write_step(
+fn write_step(
     values: &[u64; VALUES],
     octets: &[u8; OCTETS],
     end: usize,
@@ -125,10 +143,28 @@ fn plainly(said: usize) -> Ran {
     }
 }
 
-pub fn block_step(values: &[u64; VALUES], octets: &[u8; OCTETS], said: &mut [u8; SAID]) -> Ran {
-    plainly(say_block(values, octets, said))
+fn block_step(values: &[u64; VALUES], octets: &[u8; OCTETS], said: &mut [u8; SAID]) -> Ran {
+    let position = word(value_at(values, 0));
+    let read = block::read_block(octets_to(octets, value_at(values, 1)), position);
+    plainly(say_block(read, said))
 }
 
-pub fn read_step(values: &[u64; VALUES], octets: &[u8; OCTETS], said: &mut [u8; SAID]) -> Ran {
-    plainly(say_read(values, octets, said))
+fn read_step(values: &[u64; VALUES], octets: &[u8; OCTETS], said: &mut [u8; SAID]) -> Ran {
+    let vector = byte(value_at(values, 0));
+    plainly(say_read(vector, octets_to(octets, value_at(values, 1)), said))
+}
+
+// Runs a step whose line was read; `end` is the end of its octets.
+pub fn coding_step(
+    kind: u8,
+    values: &[u64; VALUES],
+    octets: &[u8; OCTETS],
+    end: usize,
+    said: &mut [u8; SAID],
+) -> Ran {
+    match kind {
+        READ => read_step(values, octets, said),
+        WRITE => write_step(values, octets, end, said),
+        _ => block_step(values, octets, said),
+    }
 }

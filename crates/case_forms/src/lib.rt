@@ -1,5 +1,6 @@
 // The lines of a case file by their forms: how each is written, reading one into values and octets, and writing values and octets as one.
 pub mod kinds;
+pub mod lines;
 pub mod reading;
 pub mod saying;
 
@@ -14,20 +15,12 @@ pub const OCTETS: usize = 131072;
 // What a step gives, or what was expected: the longest is a wrapper's contents in hex.
 pub const SAID: usize = 262144;
 
-pub fn value_at(values: &[u64], i: usize) -> u64 {
-    if i < values.len() { values[i] } else { 0 }
+pub fn value_at(values: &[u64; VALUES], i: usize) -> u64 {
+    if i < VALUES { values[i] } else { 0 }
 }
 
-pub fn set_value(values: &mut [u64], i: usize, v: u64) {
-    if i < values.len() {
+pub fn set_value(values: &mut [u64; VALUES], i: usize, v: u64) {
+    if i < VALUES {
         values[i] = v;
-    }
-}
-
-pub fn clear_values(values: &mut [u64; VALUES]) {
-    let mut i: usize = 0;
-    while i < VALUES {
-        values[i] = 0;
-        i += 1;
     }
 }

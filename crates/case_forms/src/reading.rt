@@ -3,14 +3,24 @@ use crate::OCTETS;
 use crate::OURS_MOST;
 use crate::SAID;
 use crate::VALUES;
+use crate::kinds::A_CID;
+use crate::kinds::A_HOST;
+use crate::kinds::A_NUMBER;
+use crate::kinds::AN_END;
+use crate::kinds::EVEN;
 use crate::kinds::FORM;
+use crate::kinds::OCTETS_AT_MOST;
+use crate::kinds::PAIRS;
 use crate::kinds::form_of;
 use crate::kinds::kind_of;
+use crate::saying::put_numbers;
 use crate::set_value;
+use crate::value_at;
 use case_text::Number;
 use case_text::Word;
 use case_text::decimal;
 use case_text::find;
+use case_text::is_same;
 use case_text::less;
 use case_text::next;
 use case_text::number_of;
@@ -19,7 +29,7 @@ use case_text::part;
 use case_text::peek;
 use case_text::plus;
 use case_text::put;
-use case_text::put_decimal;
+use case_text::put_byte;
 use case_text::word_at;
 
 // How far a line is read: the place in it, how many values were read, and the end of its octets. If it cannot be read, `at` is where, and the first
@@ -43,8 +53,7 @@ pub fn start_spot() -> Spot {
     }
 }
 
-// Reading stops at a word.
-pub fn stop(spot: Spot, at: usize, said: usize) -> Spot {
+fn stop(spot: Spot, at: usize, said: usize) -> Spot {
     Spot {
         ok: false,
         at,
@@ -52,6 +61,11 @@ pub fn stop(spot: Spot, at: usize, said: usize) -> Spot {
         octets: spot.octets,
         said,
     }
+}
+
+// Reading stops at a word, where the kind `wanted` says what was expected, with a number.
+pub fn stop_for(spot: Spot, at: usize, wanted: u8, n: usize, said: &mut [u8; SAID]) -> Spot {
+    stop(spot, at, put_numbers(wanted, n as u64, 0, 0, said, 0))
 }
 
 // Reading goes on behind a word that said these values, and octets up to an end.
@@ -77,11 +91,6 @@ fn most_of(mark: u8) -> usize {
     }
 }
 
-fn say_number(said: &mut [u8; SAID], most: usize) -> usize {
-    let at = put(said, 0, b"a number from 0 to ");
-    put_decimal(said, at, most as u64)
-}
-
 fn read_number(
     mark: u8,
     line: &[u8],
@@ -92,7 +101,7 @@ fn read_number(
 ) -> Spot {
     let most = most_of(mark);
     let Number::Value(v) = decimal(octets_of(line, w), most) else {
-        return stop(spot, w.from, say_number(said, most));
+        return stop_for(spot, w.from, A_NUMBER, most, said);
     };
     set_value(values, spot.value, v as u64);
     go_on(spot, w.to, next(spot.value), spot.octets)
@@ -107,28 +116,17 @@ fn most_octets(mark: u8) -> usize {
     }
 }
 
-// What is expected where a word says no octets.
-fn say_octets(said: &mut [u8; SAID], mark: u8, is_odd: bool) -> usize {
+// What is expected where a word of so many characters says no octets.
+fn octets_wanted(mark: u8, len: usize) -> u8 {
     if mark == b'c' {
-        return put(said, 0, b"a CID: 16 octets in hex");
+        return A_CID;
     }
-    if is_odd {
-        return put(said, 0, b"octets: an even number of hex digits");
-    }
-    put(
-        said,
-        0,
-        b"octets: pairs of hex digits, or - where there are none",
-    )
+    if len % 2 == 1 { EVEN } else { PAIRS }
 }
 
 // What is expected where there are too many, or for a CID too few.
-fn say_count(said: &mut [u8; SAID], mark: u8) -> usize {
-    if mark == b'c' {
-        return say_octets(said, mark, false);
-    }
-    let at = put_decimal(said, 0, most_octets(mark) as u64);
-    put(said, at, b" octets at most")
+fn count_wanted(mark: u8) -> u8 {
+    if mark == b'c' { A_CID } else { OCTETS_AT_MOST }
 }
 
 // Whether there are as many octets as a mark allows.
@@ -150,14 +148,19 @@ fn read_octets(
     said: &mut [u8; SAID],
 ) -> Spot {
     let Number::Value(end) = case_text::octets(octets_of(line, w), octets, spot.octets) else {
-        let is_odd = less(w.to, w.from) % 2 == 1;
-        return stop(spot, w.from, say_octets(said, mark, is_odd));
+        let wanted = octets_wanted(mark, less(w.to, w.from));
+        return stop_for(spot, w.from, wanted, 0, said);
     };
     if !is_allowed(mark, less(end, spot.octets)) {
-        return stop(spot, w.from, say_count(said, mark));
+        return stop_for(spot, w.from, count_wanted(mark), most_octets(mark), said);
     }
     set_value(values, spot.value, end as u64);
     go_on(spot, w.to, next(spot.value), end)
+}
+
+fn set_cid(values: &mut [u64; VALUES], at: usize, octets: &[u8; OCTETS], from: usize) {
+    set_value(values, at, number_of(octets, from));
+    set_value(values, next(at), number_of(octets, plus(from, 8)));
 }
 
 // A CID becomes two values, and its octets are not kept.
@@ -173,11 +176,8 @@ fn read_cid(
     if !after.ok {
         return after;
     }
-    let high = spot.value;
-    let low = next(high);
-    set_value(values, high, number_of(octets, spot.octets));
-    set_value(values, low, number_of(octets, plus(spot.octets, 8)));
-    go_on(spot, w.to, next(low), spot.octets)
+    set_cid(values, spot.value, octets, spot.octets);
+    go_on(spot, w.to, plus(spot.value, 2), spot.octets)
 }
 
 // One number of an address A.B.C.D, up to the next point or the word's end.
@@ -212,7 +212,7 @@ fn read_host(
     said: &mut [u8; SAID],
 ) -> Spot {
     let Number::Value(host) = host_of(line, w) else {
-        return stop(spot, w.from, put(said, 0, b"an IPv4 address, as 192.0.2.1"));
+        return stop_for(spot, w.from, A_HOST, 0, said);
     };
     set_value(values, spot.value, host as u64);
     go_on(spot, w.to, next(spot.value), spot.octets)
@@ -221,15 +221,33 @@ fn read_host(
 fn say_word(said: &mut [u8; SAID], word: &[u8]) -> usize {
     let at = put(said, 0, b"the word `");
     let end = put(said, at, word);
-    put(said, end, b"`")
+    put_byte(said, end, b'`')
 }
 
 // The word of a form that is no mark stands in the line as it is.
 fn read_word(form: &[u8], line: &[u8], w: Word, spot: Spot, said: &mut [u8; SAID]) -> Spot {
-    if !case_text::is_same(form, octets_of(line, w)) {
+    if !is_same(form, octets_of(line, w)) {
         return stop(spot, w.from, say_word(said, form));
     }
     go_on(spot, w.to, spot.value, spot.octets)
+}
+
+// Reads the value of a mark.
+fn read_mark(
+    mark: u8,
+    line: &[u8],
+    w: Word,
+    spot: Spot,
+    values: &mut [u64; VALUES],
+    octets: &mut [u8; OCTETS],
+    said: &mut [u8; SAID],
+) -> Spot {
+    match mark {
+        b'c' => read_cid(line, w, spot, values, octets, said),
+        b'h' => read_host(line, w, spot, values, said),
+        b'o' | b's' | b'l' => read_octets(mark, line, w, spot, values, octets, said),
+        _ => read_number(mark, line, w, spot, values, said),
+    }
 }
 
 // Reads what one word of a form says.
@@ -245,13 +263,7 @@ fn read_one(
     if peek(form, 0) != b'%' {
         return read_word(form, line, w, spot, said);
     }
-    let mark = peek(form, 1);
-    match mark {
-        b'c' => read_cid(line, w, spot, values, octets, said),
-        b'h' => read_host(line, w, spot, values, said),
-        b'o' | b's' | b'l' => read_octets(mark, line, w, spot, values, octets, said),
-        _ => read_number(mark, line, w, spot, values, said),
-    }
+    read_mark(peek(form, 1), line, w, spot, values, octets, said)
 }
 
 // Reads what a form says. A form has fewer words than octets.
@@ -283,25 +295,9 @@ fn read_form(
     s
 }
 
-// Reads what the form of this kind says.
+// Reads what the form of this kind says, unless reading has stopped.
 pub fn read_kind(
     kind: u8,
-    line: &[u8],
-    spot: Spot,
-    values: &mut [u64; VALUES],
-    octets: &mut [u8; OCTETS],
-    said: &mut [u8; SAID],
-) -> Spot {
-    let mut form = [0u8; FORM];
-    let len = form_of(kind, &mut form);
-    read_form(&form, len, line, spot, values, octets, said)
-}
-
-// Reads by one of the kinds from `first` up to `end`, as the next word chooses. Which one is the first of its values. `wanted` names the choice.
-pub fn read_choice(
-    first: u8,
-    end: u8,
-    wanted: &[u8],
     line: &[u8],
     spot: Spot,
     values: &mut [u64; VALUES],
@@ -311,13 +307,61 @@ pub fn read_choice(
     if !spot.ok {
         return spot;
     }
+    let mut form = [0u8; FORM];
+    let len = form_of(kind, &mut form);
+    read_form(&form, len, line, spot, values, octets, said)
+}
+
+// The kind that stands so many after the first.
+fn chosen_kind(first: u8, which: u8) -> u8 {
+    if 255 - first < which {
+        return first;
+    }
+    first + which
+}
+
+// The kind from `first` up to `end` that a word chooses is the next value.
+fn choose(
+    first: u8,
+    end: u8,
+    wanted: u8,
+    line: &[u8],
+    spot: Spot,
+    values: &mut [u64; VALUES],
+    said: &mut [u8; SAID],
+) -> Spot {
     let w = word_at(line, spot.at);
     let Number::Value(kind) = kind_of(octets_of(line, w), first, end) else {
-        return stop(spot, w.from, put(said, 0, wanted));
+        return stop_for(spot, w.from, wanted, 0, said);
     };
     set_value(values, spot.value, less(kind, first as usize) as u64);
-    let chosen = go_on(spot, spot.at, next(spot.value), spot.octets);
-    read_kind((kind % 256) as u8, line, chosen, values, octets, said)
+    go_on(spot, spot.at, next(spot.value), spot.octets)
+}
+
+// Reads by one of the kinds from `first` up to `end`, as the next word chooses. Which one is the first of its values. `wanted` names the choice.
+pub fn read_choice(
+    first: u8,
+    end: u8,
+    wanted: u8,
+    line: &[u8],
+    spot: Spot,
+    values: &mut [u64; VALUES],
+    octets: &mut [u8; OCTETS],
+    said: &mut [u8; SAID],
+) -> Spot {
+    if !spot.ok {
+        return spot;
+    }
+    let chosen = choose(first, end, wanted, line, spot, values, said);
+    let which = (value_at(values, spot.value) % 256) as u8;
+    read_kind(
+        chosen_kind(first, which),
+        line,
+        chosen,
+        values,
+        octets,
+        said,
+    )
 }
 
 // A line that was read has nothing behind.
@@ -327,7 +371,7 @@ pub fn read_end(line: &[u8], spot: Spot, said: &mut [u8; SAID]) -> Spot {
     }
     let w = word_at(line, spot.at);
     if w.from < w.to {
-        return stop(spot, w.from, put(said, 0, b"the end of the line"));
+        return stop_for(spot, w.from, AN_END, 0, said);
     }
     spot
 }

@@ -2,6 +2,7 @@
 // number, and a row is written by its form; only the calls themselves see records.
 pub mod messages;
 
+use case_text::plus;
 use counter::Reliable;
 use counter::Total;
 use message::Cid;
@@ -143,84 +144,106 @@ pub fn table_of(rows: &[u64; ROWS]) -> [Record; 8] {
 
 // ---- to numbers
 
-fn put_terms(rows: &mut [u64; ROWS], row: usize, t: Terms) {
-    set_field(rows, row, 1, t.owner.high);
-    set_field(rows, row, 2, t.owner.low);
-    set_field(rows, row, 3, t.channel as u64);
-    set_field(rows, row, 4, t.mid as u64);
-    set_field(rows, row, 5, t.reciprocal as u64);
-    set_field(rows, row, 10, t.expiry as u64);
-    set_field(rows, row, 11, flag(t.outbound));
-    set_field(rows, row, 12, t.holdoff as u64);
-    set_field(rows, row, 13, t.modulus as u64);
-    set_field(rows, row, 14, t.maxwait as u64);
+// The counters of a record: T, R, K and A.
+struct Counters {
+    total: u32,
+    reliable: u32,
+    known: u32,
+    acked: u32,
 }
 
-fn put_phase(rows: &mut [u64; ROWS], row: usize, phase: u64, left: u32, count: u8) {
-    set_field(rows, row, PHASE, phase);
-    set_field(rows, row, 17, left as u64);
-    set_field(rows, row, 18, count as u64);
+fn counters_of(r: Record) -> Counters {
+    Counters {
+        total: r.total.0,
+        reliable: r.reliable.0,
+        known: r.known.0,
+        acked: r.acked.0,
+    }
 }
 
-fn put_gap(rows: &mut [u64; ROWS], row: usize, gap: Gap) {
+// A record's values up to its gap.
+fn channel_values(used: bool, t: Terms, n: Counters, idle: u32) -> [u64; 16] {
+    [
+        flag(used),
+        t.owner.high,
+        t.owner.low,
+        t.channel as u64,
+        t.mid as u64,
+        t.reciprocal as u64,
+        n.total as u64,
+        n.reliable as u64,
+        n.known as u64,
+        n.acked as u64,
+        t.expiry as u64,
+        flag(t.outbound),
+        t.holdoff as u64,
+        t.modulus as u64,
+        t.maxwait as u64,
+        idle as u64,
+    ]
+}
+
+fn gap_values(gap: Gap) -> [u64; 3] {
     match gap {
-        Gap::Quiet => put_phase(rows, row, 0, 0, 0),
-        Gap::Standoff { left, count } => put_phase(rows, row, 1, left, count),
-        Gap::Waiting { left, count } => put_phase(rows, row, 2, left, count),
+        Gap::Quiet => [0, 0, 0],
+        Gap::Standoff { left, count } => [1, left as u64, count as u64],
+        Gap::Waiting { left, count } => [2, left as u64, count as u64],
+    }
+}
+
+fn place_values(p: Place) -> [u64; 4] {
+    [
+        flag(p.used),
+        p.total.0 as u64,
+        p.reliable.0 as u64,
+        p.len as u64,
+    ]
+}
+
+// Sets the values of a row from k on.
+fn set_fields(rows: &mut [u64; ROWS], row: usize, k: usize, values: &[u64]) {
+    let mut i: usize = 0;
+    while i < values.len() {
+        set_field(rows, row, plus(k, i), values[i]);
+        i += 1;
     }
 }
 
 fn put_place(rows: &mut [u64; ROWS], row: usize, j: usize, p: Place) {
-    set_field(rows, row, place_field(j, 0), flag(p.used));
-    set_field(rows, row, place_field(j, 1), p.total.0 as u64);
-    set_field(rows, row, place_field(j, 2), p.reliable.0 as u64);
-    set_field(rows, row, place_field(j, 3), p.len as u64);
+    set_fields(rows, row, place_field(j, 0), &place_values(p));
 }
 
 fn put_places(rows: &mut [u64; ROWS], row: usize, places: [Place; 4]) {
-    let a = places[0];
-    let b = places[1];
-    let c = places[2];
-    let d = places[3];
-    put_place(rows, row, 0, a);
-    put_place(rows, row, 1, b);
-    put_place(rows, row, 2, c);
-    put_place(rows, row, 3, d);
+    let mut j: usize = 0;
+    while j < 4 {
+        let p = places[j];
+        put_place(rows, row, j, p);
+        j += 1;
+    }
 }
 
 fn put_record(rows: &mut [u64; ROWS], row: usize, r: Record) {
     let terms = r.terms;
     let gap = r.gap;
     let places = r.places;
-    set_field(rows, row, USED, flag(r.used));
-    put_terms(rows, row, terms);
-    set_field(rows, row, 6, r.total.0 as u64);
-    set_field(rows, row, 7, r.reliable.0 as u64);
-    set_field(rows, row, 8, r.known.0 as u64);
-    set_field(rows, row, 9, r.acked.0 as u64);
-    set_field(rows, row, 15, r.idle as u64);
-    put_gap(rows, row, gap);
+    set_fields(
+        rows,
+        row,
+        0,
+        &channel_values(r.used, terms, counters_of(r), r.idle),
+    );
+    set_fields(rows, row, PHASE, &gap_values(gap));
     put_places(rows, row, places);
 }
 
 // Keeps the table that a call answered behind the one that it was given.
 pub fn keep_answer(rows: &mut [u64; ROWS], table: [Record; 8]) {
-    let a = table[0];
-    let b = table[1];
-    let c = table[2];
-    let d = table[3];
-    let e = table[4];
-    let f = table[5];
-    let g = table[6];
-    let h = table[7];
-    put_record(rows, 8, a);
-    put_record(rows, 9, b);
-    put_record(rows, 10, c);
-    put_record(rows, 11, d);
-    put_record(rows, 12, e);
-    put_record(rows, 13, f);
-    put_record(rows, 14, g);
-    put_record(rows, 15, h);
+    let mut i: usize = 0;
+    while i < 8 {
+        let r = table[i];
+        put_record(rows, ANSWERED + i, r);
+        i += 1;
+    }
 }
 
 // ---- comparing

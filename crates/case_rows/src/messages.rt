@@ -33,127 +33,151 @@ pub const ADDRESS_AT: usize = 9;
 
 // ---- to values
 
-fn set_cid(values: &mut [u64; VALUES], c: Cid) {
-    set_value(values, 2, c.high);
-    set_value(values, 3, c.low);
+fn wrapper_values(w: Wrapper) -> [u64; 7] {
+    [
+        w.channel as u64,
+        w.total.0 as u64,
+        w.reliable.0 as u64,
+        w.oldest.0 as u64,
+        w.first as u64,
+        w.last as u64,
+        w.threshold as u64,
+    ]
 }
 
-fn set_wrapper(values: &mut [u64; VALUES], w: Wrapper) {
-    set_value(values, 2, w.channel as u64);
-    set_value(values, 3, w.total.0 as u64);
-    set_value(values, 4, w.reliable.0 as u64);
-    set_value(values, 5, w.oldest.0 as u64);
-    set_value(values, 6, w.first as u64);
-    set_value(values, 7, w.last as u64);
-    set_value(values, 8, w.threshold as u64);
-}
-
-fn set_member(values: &mut [u64; VALUES], m: Membership, more: u64) {
+// A message that begins with a member has one or two values more.
+fn member_values(m: Membership, more: u64, last: u64) -> [u64; 7] {
     let leader = m.leader;
-    set_cid(values, leader);
-    set_value(values, 4, m.channel as u64);
-    set_value(values, 5, m.mid as u64);
-    set_value(values, 6, m.reliable.0 as u64);
-    set_value(values, 7, more);
+    [
+        leader.high,
+        leader.low,
+        m.channel as u64,
+        m.mid as u64,
+        m.reliable.0 as u64,
+        more,
+        last,
+    ]
 }
 
-fn set_parameters(values: &mut [u64; VALUES], at: usize, p: Parameters) {
-    set_value(values, at, p.expiry as u64);
-    set_value(values, plus(at, 1), p.flags as u64);
-    set_value(values, plus(at, 2), p.holdoff as u64);
-    set_value(values, plus(at, 3), p.modulus as u64);
-    set_value(values, plus(at, 4), p.maxwait as u64);
-    set_value(values, plus(at, 5), p.adhoc as u64);
-}
-
-fn set_address(values: &mut [u64; VALUES], a: Address) {
-    match a {
-        Address::Null(p) => {
-            set_value(values, ADDRESS_AT, 0);
-            set_parameters(values, 10, p);
-        }
-        Address::Ipv4(e, p) => {
-            set_value(values, ADDRESS_AT, 1);
-            set_value(values, 10, e.port as u64);
-            set_value(values, 11, e.host as u64);
-            set_parameters(values, 12, p);
-        }
-        Address::Other(kind) => {
-            set_value(values, ADDRESS_AT, 2);
-            set_value(values, 10, kind as u64);
-        }
-    }
-}
-
-fn set_join(values: &mut [u64; VALUES], j: Join) {
+// A Join without its address.
+fn join_values(j: Join) -> [u64; 7] {
     let cid = j.cid;
-    let address = j.address;
-    set_cid(values, cid);
-    set_value(values, 4, j.mid as u64);
-    set_value(values, 5, j.channel as u64);
-    set_value(values, 6, j.reciprocal as u64);
-    set_value(values, 7, j.total.0 as u64);
-    set_value(values, 8, j.reliable.0 as u64);
-    set_address(values, address);
+    [
+        cid.high,
+        cid.low,
+        j.mid as u64,
+        j.channel as u64,
+        j.reciprocal as u64,
+        j.total.0 as u64,
+        j.reliable.0 as u64,
+    ]
 }
 
-fn set_nak(values: &mut [u64; VALUES], m: Membership, first: Reliable, last: Reliable) {
-    set_member(values, m, first.0 as u64);
-    set_value(values, 8, last.0 as u64);
-}
-
-// A message that begins with a member. (The last arm stands for those that are taken before.)
-fn member_values(m: Message, values: &mut [u64; VALUES]) -> u8 {
+// The values of a message but for an address.
+fn own_values(m: Message) -> [u64; 7] {
     match m {
-        Message::JoinRefuse { member, reason } => {
-            set_member(values, member, reason as u64);
-            REFUSE
-        }
-        Message::JoinAccept { member, reciprocal } => {
-            set_member(values, member, reciprocal as u64);
-            ACCEPT
-        }
-        Message::Leaving { member, reason } => {
-            set_member(values, member, reason as u64);
-            LEAVING
-        }
+        Message::ReliableWrapper(w) => wrapper_values(w),
+        Message::UnreliableWrapper(w) => wrapper_values(w),
+        Message::Join(j) => join_values(j),
+        Message::JoinRefuse { member, reason } => member_values(member, reason as u64, 0),
+        Message::JoinAccept { member, reciprocal } => member_values(member, reciprocal as u64, 0),
+        Message::Leaving { member, reason } => member_values(member, reason as u64, 0),
         Message::Nak {
             member,
             first,
             last,
-        } => {
-            set_nak(values, member, first, last);
-            NAK
-        }
-        _ => NAK,
+        } => member_values(member, first.0 as u64, last.0 as u64),
+        Message::Ack(r) => [r.0 as u64, 0, 0, 0, 0, 0, 0],
+        Message::GetSessions(c) => [c.high, c.low, 0, 0, 0, 0, 0],
+    }
+}
+
+fn kind_of_message(m: Message) -> u8 {
+    match m {
+        Message::ReliableWrapper(_) => RELIABLE,
+        Message::UnreliableWrapper(_) => UNRELIABLE,
+        Message::Join(_) => JOIN,
+        Message::JoinRefuse {
+            member: _,
+            reason: _,
+        } => REFUSE,
+        Message::JoinAccept {
+            member: _,
+            reciprocal: _,
+        } => ACCEPT,
+        Message::Leaving {
+            member: _,
+            reason: _,
+        } => LEAVING,
+        Message::Nak {
+            member: _,
+            first: _,
+            last: _,
+        } => NAK,
+        Message::Ack(_) => ACK,
+        Message::GetSessions(_) => SESSIONS,
+    }
+}
+
+// The address of a Join: its type, then what it has before its parameters, and those.
+fn null_values(p: Parameters) -> [u64; 9] {
+    [
+        0,
+        p.expiry as u64,
+        p.flags as u64,
+        p.holdoff as u64,
+        p.modulus as u64,
+        p.maxwait as u64,
+        p.adhoc as u64,
+        0,
+        0,
+    ]
+}
+
+fn ipv4_values(e: Endpoint, p: Parameters) -> [u64; 9] {
+    [
+        1,
+        e.port as u64,
+        e.host as u64,
+        p.expiry as u64,
+        p.flags as u64,
+        p.holdoff as u64,
+        p.modulus as u64,
+        p.maxwait as u64,
+        p.adhoc as u64,
+    ]
+}
+
+fn address_values(a: Address) -> [u64; 9] {
+    match a {
+        Address::Null(p) => null_values(p),
+        Address::Ipv4(e, p) => ipv4_values(e, p),
+        Address::Other(kind) => [2, kind as u64, 0, 0, 0, 0, 0, 0, 0],
+    }
+}
+
+fn values_behind(m: Message) -> [u64; 9] {
+    let Message::Join(j) = m else {
+        return [0; 9];
+    };
+    let address = j.address;
+    address_values(address)
+}
+
+// Sets the values from `at` on.
+fn set_values(values: &mut [u64; VALUES], at: usize, some: &[u64]) {
+    let mut i: usize = 0;
+    while i < some.len() {
+        set_value(values, plus(at, i), some[i]);
+        i += 1;
     }
 }
 
 // The values of a message: the answer is its kind.
 pub fn values_of(m: Message, values: &mut [u64; VALUES]) -> u8 {
-    match m {
-        Message::ReliableWrapper(w) => {
-            set_wrapper(values, w);
-            RELIABLE
-        }
-        Message::UnreliableWrapper(w) => {
-            set_wrapper(values, w);
-            UNRELIABLE
-        }
-        Message::Join(j) => {
-            set_join(values, j);
-            JOIN
-        }
-        Message::Ack(r) => {
-            set_value(values, 2, r.0 as u64);
-            ACK
-        }
-        Message::GetSessions(c) => {
-            set_cid(values, c);
-            SESSIONS
-        }
-        _ => member_values(m, values),
-    }
+    set_values(values, MESSAGE_AT, &own_values(m));
+    set_values(values, ADDRESS_AT, &values_behind(m));
+    kind_of_message(m)
 }
 
 // ---- from values

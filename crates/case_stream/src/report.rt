@@ -1,7 +1,8 @@
 // What is kept from line to line, and what is written: the report of each case, or with `show` the file itself. Output waits in a lent array and is
 // written in large pieces. With `show`, what is wrong goes to standard error, so that standard output stays a case file.
-use case_calls::Lent;
-use case_calls::lent_right;
+use case_rooms::lent::Lent;
+use case_rooms::lent::lent_right;
+use case_text::Word;
 use case_text::less;
 use case_text::next;
 use case_text::octets_of;
@@ -143,25 +144,35 @@ fn tell_name(name: &[u8; LINE], out: &mut [u8; OUT], state: State) -> State {
     tell(out, state, part(name, 0, state.name))
 }
 
-fn tell_line(out: &mut [u8; OUT], state: State, label: &[u8], s: &[u8]) -> State {
+pub fn tell_line(out: &mut [u8; OUT], state: State, label: &[u8], s: &[u8]) -> State {
     let a = tell(out, state, label);
     let b = tell(out, a, s);
     tell(out, b, b"\n")
 }
 
-// The case fails at this line: what follows says why.
-pub fn fail(name: &[u8; LINE], out: &mut [u8; OUT], state: State, line: u64) -> State {
+// The case fails, and the rest of it is passed over.
+fn with_failure(state: State) -> State {
     let mut st = state;
     st.open = true;
     st.broken = true;
     st.stepped = false;
     let failed = more(st.failed);
     st.failed = failed;
-    let a = tell(out, st, b"FAIL ");
-    let b = tell_name(name, out, a);
-    let c = tell(out, b, b", line ");
-    let d = tell_number(out, c, line);
-    tell(out, d, b"\n")
+    st
+}
+
+// A report's head: how the case ended, and its name.
+fn tell_case(name: &[u8; LINE], out: &mut [u8; OUT], state: State, label: &[u8]) -> State {
+    let st = tell(out, state, label);
+    tell_name(name, out, st)
+}
+
+// The case fails at this line: what follows says why.
+pub fn fail(name: &[u8; LINE], out: &mut [u8; OUT], state: State, line: u64) -> State {
+    let a = tell_case(name, out, with_failure(state), b"FAIL ");
+    let b = tell(out, a, b", line ");
+    let c = tell_number(out, b, line);
+    tell(out, c, b"\n")
 }
 
 // The case fails at this line, with what was expected and what was given.
@@ -178,18 +189,36 @@ pub fn fail_with(
     tell_line(out, b, b"     given:    ", given)
 }
 
-// The first characters of the word at `at`.
+// The first characters from `from` on, and that there are more.
+fn tell_start(line: &[u8], from: usize, out: &mut [u8; OUT], state: State) -> State {
+    let st = tell(out, state, part(line, from, plus(from, SHOWN)));
+    tell(out, st, b"..")
+}
+
+// A word of the line, or its first characters.
+fn tell_some(line: &[u8], w: Word, out: &mut [u8; OUT], state: State) -> State {
+    if less(w.to, w.from) <= SHOWN {
+        return tell(out, state, octets_of(line, w));
+    }
+    tell_start(line, w.from, out, state)
+}
+
+// The word at `at`.
 fn tell_word(line: &[u8], at: usize, out: &mut [u8; OUT], state: State) -> State {
     let w = word_at(line, at);
     if w.to <= w.from {
         return tell(out, state, b"the end of the line");
     }
-    let most = plus(w.from, SHOWN);
-    if w.to <= most {
-        return tell(out, state, octets_of(line, w));
-    }
-    let st = tell(out, state, part(line, w.from, most));
-    tell(out, st, b"..")
+    tell_some(line, w, out, state)
+}
+
+// What stands at `at`, and where that is.
+fn tell_given(line: &[u8], at: usize, out: &mut [u8; OUT], state: State) -> State {
+    let a = tell(out, state, b"     given:    ");
+    let b = tell_word(line, at, out, a);
+    let c = tell(out, b, b", at character ");
+    let d = tell_number(out, c, next(at) as u64);
+    tell(out, d, b"\n")
 }
 
 // The line cannot be read from `at` on.
@@ -203,11 +232,22 @@ pub fn fail_reading(
 ) -> State {
     let a = fail(name, out, state, state.line);
     let b = tell_line(out, a, b"     expected: ", expected);
-    let c = tell(out, b, b"     given:    ");
-    let d = tell_word(line, at, out, c);
-    let e = tell(out, d, b", at character ");
-    let f = tell_number(out, e, next(at) as u64);
-    tell(out, f, b"\n")
+    tell_given(line, at, out, b)
+}
+
+fn tell_passed(name: &[u8; LINE], out: &mut [u8; OUT], state: State) -> State {
+    if state.show {
+        return state;
+    }
+    let st = tell_case(name, out, state, b"ok   ");
+    tell(out, st, b"\n")
+}
+
+fn with_pass(state: State) -> State {
+    let mut st = state;
+    let passed = more(st.passed);
+    st.passed = passed;
+    st
 }
 
 // The open case passes, unless it has failed.
@@ -218,15 +258,7 @@ pub fn close_case(name: &[u8; LINE], out: &mut [u8; OUT], state: State) -> State
     if state.broken {
         return state;
     }
-    let mut st = state;
-    let passed = more(st.passed);
-    st.passed = passed;
-    if st.show {
-        return st;
-    }
-    let a = tell(out, st, b"ok   ");
-    let b = tell_name(name, out, a);
-    tell(out, b, b"\n")
+    tell_passed(name, out, with_pass(state))
 }
 
 // The tally, which `show` has not.

@@ -120,22 +120,11 @@ pub fn digit(b: u8) -> u8 {
     }
 }
 
-pub fn is_same(a: &[u8], b: &[u8]) -> bool {
-    if a.len() != b.len() {
-        return false;
+// Whether two octets are the same, or with `hex` are hex digits that say the same.
+fn is_same_octet(a: u8, b: u8, hex: bool) -> bool {
+    if !hex {
+        return a == b;
     }
-    let mut i: usize = 0;
-    while i < a.len() {
-        if a[i] != b[i] {
-            return false;
-        }
-        i += 1;
-    }
-    true
-}
-
-// Whether both are hex digits that say the same.
-fn is_same_digit(a: u8, b: u8) -> bool {
     let d = digit(a);
     if 15 < d {
         return false;
@@ -143,14 +132,14 @@ fn is_same_digit(a: u8, b: u8) -> bool {
     d == digit(b)
 }
 
-// Whether both are the same octets in hex, in either case.
-fn is_same_hex(a: &[u8], b: &[u8]) -> bool {
+// Whether both have the same octets, or with `hex` the same hex digits in either case.
+fn agree(a: &[u8], b: &[u8], hex: bool) -> bool {
     if a.len() != b.len() {
         return false;
     }
     let mut i: usize = 0;
     while i < a.len() {
-        if !is_same_digit(a[i], b[i]) {
+        if !is_same_octet(a[i], b[i], hex) {
             return false;
         }
         i += 1;
@@ -158,11 +147,15 @@ fn is_same_hex(a: &[u8], b: &[u8]) -> bool {
     true
 }
 
+pub fn is_same(a: &[u8], b: &[u8]) -> bool {
+    agree(a, b, false)
+}
+
 pub fn is_same_word(a: &[u8], b: &[u8]) -> bool {
-    if is_same(a, b) {
+    if agree(a, b, false) {
         return true;
     }
-    is_same_hex(a, b)
+    agree(a, b, true)
 }
 
 // Whether two lines have the same words. Each turn takes a word of both, so there are at most as many turns as a has octets.
@@ -218,19 +211,6 @@ pub fn decimal(word: &[u8], most: usize) -> Number {
     Number::Value(value)
 }
 
-// The octet of two hex digits.
-fn pair(high: u8, low: u8) -> Number {
-    let h = digit(high);
-    let l = digit(low);
-    if 15 < h {
-        return Number::Wrong;
-    }
-    if 15 < l {
-        return Number::Wrong;
-    }
-    Number::Value((h as usize) * 16 + (l as usize))
-}
-
 // Stores an octet, if it has room.
 fn store(out: &mut [u8], at: usize, b: u8) {
     if at < out.len() {
@@ -238,11 +218,17 @@ fn store(out: &mut [u8], at: usize, b: u8) {
     }
 }
 
-// The octets that a word says in hex, or none for `-`, are stored from `at` on: the answer is the place after them. All have room: there are half as
-// many as the word has digits, and a line's length bounds them.
-pub fn octets(word: &[u8], out: &mut [u8], at: usize) -> Number {
-    if is_same(word, b"-") {
-        return Number::Value(at);
+fn is_dash(word: &[u8]) -> bool {
+    if word.len() != 1 {
+        return false;
+    }
+    word[0] == b'-'
+}
+
+// How many octets a word of hex digits says, or none for `-`.
+fn count_of(word: &[u8]) -> Number {
+    if is_dash(word) {
+        return Number::Value(0);
     }
     if word.len() == 0 {
         return Number::Wrong;
@@ -250,33 +236,56 @@ pub fn octets(word: &[u8], out: &mut [u8], at: usize) -> Number {
     if word.len() % 2 == 1 {
         return Number::Wrong;
     }
-    let count = word.len() / 2;
-    if out.len() < count {
-        return Number::Wrong;
+    Number::Value(word.len() / 2)
+}
+
+// Stores the octet that two hex digits say, if they are digits.
+fn store_pair(out: &mut [u8], at: usize, high: u8, low: u8) -> bool {
+    let h = digit(high);
+    let l = digit(low);
+    if 15 < h {
+        return false;
     }
-    if out.len() - count < at {
-        return Number::Wrong;
+    if 15 < l {
+        return false;
     }
+    store(out, at, h * 16 + l);
+    true
+}
+
+// Stores the first `count` octets that a word says: the answer is the place after them.
+fn store_pairs(word: &[u8], out: &mut [u8], at: usize, count: usize) -> Number {
     let mut i: usize = 0;
     while i < count {
-        let Number::Value(b) = pair(peek(word, i * 2), peek(word, i * 2 + 1)) else {
+        let high = peek(word, plus(i, i));
+        let low = peek(word, next(plus(i, i)));
+        if !store_pair(out, plus(at, i), high, low) {
             return Number::Wrong;
-        };
-        store(out, at + i, (b % 256) as u8);
+        }
         i += 1;
     }
-    Number::Value(at + count)
+    Number::Value(plus(at, count))
+}
+
+// The octets that a word says in hex, or none for `-`, are stored from `at` on: the answer is the place after them. All have room: there are half as
+// many as the word has digits, and a line's length bounds them.
+pub fn octets(word: &[u8], out: &mut [u8], at: usize) -> Number {
+    let Number::Value(count) = count_of(word) else {
+        return Number::Wrong;
+    };
+    if out.len() < plus(at, count) {
+        return Number::Wrong;
+    }
+    store_pairs(word, out, at, count)
 }
 
 // The number that eight octets say, the highest first.
 pub fn number_of(s: &[u8], from: usize) -> u64 {
-    let mut value: u64 = 0;
-    let mut i: usize = 0;
-    while i < 8 {
-        value = value % 72057594037927936 * 256 + (peek(part(s, from, s.len()), i) as u64);
-        i += 1;
+    let eight = part(s, from, plus(from, 8));
+    if eight.len() < 8 {
+        return 0;
     }
-    value
+    octets::u64_at(eight, 0)
 }
 
 // ---- writing
@@ -293,12 +302,16 @@ pub fn put(out: &mut [u8], at: usize, s: &[u8]) -> usize {
     at + s.len()
 }
 
+fn copy_octet(s: &mut [u8], to: usize, from: usize) {
+    let b = peek(s, from);
+    store(s, to, b);
+}
+
 // Copies n octets from `from` on to `to`, from the first to the last, as far as both have room.
 pub fn copy_within(s: &mut [u8], to: usize, from: usize, n: usize) {
     let mut i: usize = 0;
     while i < n {
-        let b = peek(s, plus(from, i));
-        store(s, plus(to, i), b);
+        copy_octet(s, plus(to, i), plus(from, i));
         i += 1;
     }
 }
@@ -331,6 +344,12 @@ fn put_tail(out: &mut [u8], at: usize, digits: &[u8; 20], from: usize) -> usize 
     put(out, at, part(digits, from, 20))
 }
 
+// Puts one octet.
+pub fn put_byte(out: &mut [u8], at: usize, b: u8) -> usize {
+    store(out, at, b);
+    next(at)
+}
+
 // Puts n in decimal.
 pub fn put_decimal(out: &mut [u8], at: usize, n: u64) -> usize {
     let mut digits = [0u8; 20];
@@ -348,8 +367,12 @@ fn put_octet(out: &mut [u8], at: usize, b: u8) -> usize {
 // Puts octets in hex, or `-` where there are none.
 pub fn put_octets(out: &mut [u8], at: usize, s: &[u8]) -> usize {
     if s.len() == 0 {
-        return put(out, at, b"-");
+        return put_byte(out, at, b'-');
     }
+    put_pairs(out, at, s)
+}
+
+fn put_pairs(out: &mut [u8], at: usize, s: &[u8]) -> usize {
     let mut end = at;
     let mut i: usize = 0;
     while i < s.len() {

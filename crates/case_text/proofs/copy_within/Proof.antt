@@ -18,14 +18,11 @@ loop-holds c = search needs
 plus-requires : tie.Need-plus-requires Inv-loop μ-loop
 plus-requires c κs = search needs
 
-peek-requires : tie.Need-peek-requires Inv-loop μ-loop
-peek-requires c κs = search needs
-
 plus-requires-2 : tie.Need-plus-requires-2 Inv-loop μ-loop
 plus-requires-2 c κs = search needs
 
-store-requires : tie.Need-store-requires Inv-loop μ-loop
-store-requires c κs = search needs
+copy-octet-requires : tie.Need-copy-octet-requires Inv-loop μ-loop
+copy-octet-requires c κs = search needs
 
 add-i : tie.Need-add-i Inv-loop μ-loop
 add-i c = search needs
@@ -50,9 +47,8 @@ copy-within-spec =
     μ-loop
     loop-holds
     plus-requires
-    peek-requires
     plus-requires-2
-    store-requires
+    copy-octet-requires
     add-i
     loop-less
     loop-again

@@ -4,10 +4,13 @@ use Rattle.case_forms.proofs.saying.put_form.Statement.{statement}
 use Rattle.case_forms.proofs.saying.put_form.Tie as tie
 
 abbrev Inv-loop : tie.InvT-loop
-Inv-loop form values from octets said₀ at pen₀ place₀ turns₀ said pen place turns = Unit {0}
+Inv-loop form len values from octets said₀ at text pen₀ place₀ turns₀ said pen place turns = Unit {0}
 
 abbrev μ-loop : tie.MeasureT-loop
-μ-loop form values from octets said₀ at pen₀ place₀ turns₀ said pen place turns = turns
+μ-loop form len values from octets said₀ at text pen₀ place₀ turns₀ said pen place turns = turns
+
+part-requires : tie.Need-part-requires Inv-loop μ-loop
+part-requires c κs = search needs
 
 loop-holds : tie.Need-loop-holds Inv-loop μ-loop
 loop-holds c = search needs
@@ -42,6 +45,7 @@ put-form-spec =
     (tie.spec
     Inv-loop
     μ-loop
+    part-requires
     loop-holds
     word-at-requires
     returns

@@ -1,8 +1,8 @@
 -- `say_deliveries` is safe and ends: there are at most five deliveries. Assumes nothing.
 use borrow.Author.Needs.{needs}
 use Prim.Native.Nat.{_-_}
-use Rattle.case_calls.proofs.say_deliveries.Statement.{statement}
-use Rattle.case_calls.proofs.say_deliveries.Tie as tie
+use Rattle.case_calls.proofs.message_call.say_deliveries.Statement.{statement}
+use Rattle.case_calls.proofs.message_call.say_deliveries.Tie as tie
 
 abbrev Inv-loop : tie.InvT-loop
 Inv-loop deliver₀ count said₀ from deliveries at₀ k₀ deliver said at k = Unit {0}

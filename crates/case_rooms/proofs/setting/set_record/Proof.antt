@@ -1,8 +1,8 @@
 -- `set_record` is safe and ends: each turn sets one value. Assumes nothing.
 use borrow.Author.Needs.{needs}
 use Prim.Native.Nat.{_-_}
-use Rattle.cases.proofs.lines.set_record.Statement.{statement}
-use Rattle.cases.proofs.lines.set_record.Tie as tie
+use Rattle.case_rooms.proofs.setting.set_record.Statement.{statement}
+use Rattle.case_rooms.proofs.setting.set_record.Tie as tie
 
 abbrev Inv-loop : tie.InvT-loop
 Inv-loop rows₀ values i k₀ rows k = Unit {0}

@@ -1,8 +1,8 @@
 -- `say_cells` is safe and ends: there are eight cells. Assumes nothing.
 use borrow.Author.Needs.{needs}
 use Prim.Native.Nat.{_-_}
-use Rattle.case_calls.proofs.say_cells.Statement.{statement}
-use Rattle.case_calls.proofs.say_cells.Tie as tie
+use Rattle.case_calls.proofs.elapsed_call.say_cells.Statement.{statement}
+use Rattle.case_calls.proofs.elapsed_call.say_cells.Tie as tie
 
 abbrev Inv-loop : tie.InvT-loop
 Inv-loop room₀ said₀ from cells at₀ i₀ room said at i = Unit {0}
