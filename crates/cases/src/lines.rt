@@ -1,532 +1,115 @@
 // The lines of a case file in turn: a line sets something up, is a step, or holds what the step above gave against what it must give. Lines
 // before the first `case` are a case with no name, which starts as any other.
-use calls::Lent;
-use calls::elapsed_step;
-use calls::leave_step;
-use calls::lent_right;
-use calls::message_step;
-use coding::block_step;
-use coding::read_step;
-use coding::write_step;
-use forms::OCTETS;
-use forms::OURS_MOST;
-use forms::SAID;
-use forms::VALUES;
-use forms::clear_values;
-use forms::kinds::CHANNEL;
-use forms::kinds::ELAPSED;
-use forms::kinds::FREE;
-use forms::kinds::JOIN;
-use forms::kinds::KINDS;
-use forms::kinds::LEAVE;
-use forms::kinds::LEND;
-use forms::kinds::MESSAGE;
-use forms::kinds::NULL;
-use forms::kinds::OURS;
-use forms::kinds::PLACE;
-use forms::kinds::QUIET;
-use forms::kinds::READ;
-use forms::kinds::RECORD;
-use forms::kinds::RELIABLE;
-use forms::kinds::TABLE;
-use forms::kinds::WRITE;
-use forms::kinds::kind_of;
-use forms::reading::Spot;
-use forms::reading::read_choice;
-use forms::reading::read_end;
-use forms::reading::read_kind;
-use forms::reading::start_spot;
-use forms::reading::stop;
-use forms::value_at;
-use rooms::Fault;
-use rooms::Piece;
-use rooms::Ran;
-use rooms::lent::HELD;
-use rooms::lent::clear_held;
-use rooms::lent::store_contents;
-use rows::PHASE;
-use rows::ROWS;
-use rows::USED;
-use rows::clear;
-use rows::place_field;
-use rows::set_field;
-use stream::report::LINE;
-use stream::report::OUT;
-use stream::report::State;
-use stream::report::close_case;
-use stream::report::fail;
-use stream::report::fail_reading;
-use stream::report::fail_with;
-use stream::report::keep;
-use stream::report::more;
-use stream::report::pass_on;
-use stream::report::tell;
-use stream::report::tell_number;
-use text::Number;
-use text::Word;
-use text::copy_within;
-use text::find;
-use text::is_same;
-use text::is_same_line;
-use text::less;
-use text::next;
-use text::octets_of;
-use text::part;
-use text::peek;
-use text::put;
-use text::trimmed_end;
-use text::word_at;
+use crate::steps::take_read;
+use case_forms::OCTETS;
+use case_forms::SAID;
+use case_forms::VALUES;
+use case_forms::lines::line_kind;
+use case_forms::lines::read_line;
+use case_rooms::lent::HELD;
+use case_rooms::lent::clear_held;
+use case_rooms::lent::lent_right;
+use case_rows::ROWS;
+use case_rows::clear;
+use case_stream::judging::close_step;
+use case_stream::judging::take_expected;
+use case_stream::report::LINE;
+use case_stream::report::OUT;
+use case_stream::report::State;
+use case_stream::report::close_case;
+use case_stream::report::fail_reading;
+use case_stream::report::fail_with;
+use case_stream::report::keep;
+use case_stream::report::more;
+use case_stream::report::pass_on;
+use case_stream::source::Turn;
+use case_text::Word;
+use case_text::is_same;
+use case_text::octets_of;
+use case_text::part;
+use case_text::peek;
+use case_text::put;
+use case_text::trimmed_end;
+use case_text::word_at;
 
-// ---- what a step gave, and the lines under it
-
-// No step stands above any more.
-fn without_step(state: State) -> State {
+// A case is open from its first line that is no comment.
+fn with_case(state: State) -> State {
     let mut st = state;
-    st.stepped = false;
-    st.said = 0;
-    st.judged = 0;
-    st.judged_line = 0;
+    st.open = true;
     st
 }
 
-// The lines under a step are over: it must have given no more than they say.
-fn close_step(said: &[u8; SAID], name: &[u8; LINE], out: &mut [u8; OUT], state: State) -> State {
-    let st = without_step(state);
-    if state.broken {
-        return st;
-    }
-    if state.judged_line == 0 {
-        return st;
-    }
-    if state.said <= state.judged {
-        return st;
-    }
-    let end = find(said, state.judged, state.said, b'\n');
-    let given = part(said, state.judged, end);
-    fail_with(name, out, st, state.judged_line, b"nothing more", given)
-}
-
-// Holds the next line that the step gave against a line, whose words after `=` start at `from`.
-fn compare(
+// The lines under the step above are over, and another line stands in the file.
+fn begin_line(
     line: &[u8],
-    from: usize,
     said: &[u8; SAID],
     name: &[u8; LINE],
     out: &mut [u8; OUT],
     state: State,
 ) -> State {
-    let mut st = state;
-    st.judged_line = state.line;
-    let end = find(said, state.judged, state.said, b'\n');
-    let given = part(said, state.judged, end);
-    let expected = part(line, less(from, 1), trimmed_end(line));
-    if state.said <= state.judged {
-        return fail_with(name, out, st, state.line, expected, b"nothing more");
-    }
-    if !is_same_line(part(given, 1, given.len()), part(line, from, line.len())) {
-        return fail_with(name, out, st, state.line, expected, given);
-    }
-    st.judged = next(end);
-    st
+    let closed = close_step(said, name, out, state);
+    keep(line, out, with_case(closed))
 }
 
-// A line `= ..`, whose `=` stands at `at`. With `show` it is left out, as what the step gives now was written under the step.
-fn take_expected(
-    line: &[u8],
-    at: usize,
-    said: &[u8; SAID],
-    name: &[u8; LINE],
-    out: &mut [u8; OUT],
-    state: State,
-) -> State {
-    if state.broken {
-        return keep(line, out, state);
-    }
-    if !state.stepped {
-        let st = keep(line, out, state);
-        return fail_reading(line, at, b"a step above this line", name, out, st);
-    }
-    if state.show {
-        return state;
-    }
-    compare(line, next(at), said, name, out, state)
-}
-
-// ---- lines that set something up
-
-fn set_ours(octets: &mut [u8; OCTETS], end: usize, state: State) -> State {
-    let len = less(end, OURS_MOST);
-    copy_within(octets, 0, OURS_MOST, len);
-    let mut st = state;
-    st.ours = len;
-    st
-}
-
-// A record's values are in the order of its row, but that the first is its index.
-fn set_record(rows: &mut [u64; ROWS], values: &[u64; VALUES]) {
-    let i = value_at(values, 0) as usize;
-    set_field(rows, i, USED, 1);
-    let mut k: usize = 1;
-    while k <= PHASE + 2 {
-        set_field(rows, i, k, value_at(values, k));
-        k += 1;
-    }
-}
-
-fn set_place(
-    rows: &mut [u64; ROWS],
-    held: &mut [u8; HELD],
-    values: &[u64; VALUES],
-    octets: &[u8; OCTETS],
-    end: usize,
-) {
-    let i = value_at(values, 0) as usize;
-    let j = value_at(values, 1) as usize;
-    set_field(rows, i, place_field(j, 0), 1);
-    set_field(rows, i, place_field(j, 1), value_at(values, 2));
-    set_field(rows, i, place_field(j, 2), value_at(values, 3));
-    set_field(rows, i, place_field(j, 3), less(end, OURS_MOST) as u64);
-    store_contents(held, i % 8 * 4 + j % 4, part(octets, OURS_MOST, end));
-}
-
-// How much is lent, with n of a piece.
-fn lend(lent: Lent, piece: u64, n: usize) -> Lent {
-    let mut l = lent;
-    match piece {
-        0 => l.table = n,
-        1 => l.held = n,
-        2 => l.deliver = n,
-        3 => l.reply = n,
-        _ => l.cells = n,
-    }
-    l
-}
-
-fn set_lent(values: &[u64; VALUES], state: State) -> State {
-    let mut st = state;
-    let before = st.lent;
-    let lent = lend(before, value_at(values, 0), value_at(values, 1) as usize);
-    st.lent = lent;
-    st
-}
-
-fn set_up(
-    kind: u8,
-    rows: &mut [u64; ROWS],
-    held: &mut [u8; HELD],
-    values: &[u64; VALUES],
-    octets: &mut [u8; OCTETS],
-    end: usize,
-    state: State,
-) -> State {
-    match kind {
-        OURS => return set_ours(octets, end, state),
-        RECORD => set_record(rows, values),
-        FREE => set_field(rows, value_at(values, 0) as usize, USED, 0),
-        PLACE => set_place(rows, held, values, octets, end),
-        _ => return set_lent(values, state),
-    }
-    state
-}
-
-// ---- steps
-
-// A step was run: what was lent for it is spent.
-fn with_step(state: State, said: usize) -> State {
-    let mut st = state;
-    st.stepped = true;
-    st.said = said;
-    let lent = lent_right();
-    st.lent = lent;
-    st
-}
-
-fn tell_piece(piece: Piece, out: &mut [u8; OUT], state: State) -> State {
-    match piece {
-        Piece::Held => tell(out, state, b" of the held octets"),
-        Piece::Deliver => tell(out, state, b" of the delivery room"),
-        Piece::Reply => tell(out, state, b" of the reply room"),
-        Piece::Cells => tell(out, state, b" of the cells"),
-        Piece::Room => tell(out, state, b" of the room"),
-    }
-}
-
-// A step changed an octet of a piece that its answer does not name.
-fn fail_changed(
-    piece: Piece,
-    at: usize,
-    name: &[u8; LINE],
-    out: &mut [u8; OUT],
-    state: State,
-) -> State {
-    let a = fail(name, out, state, state.line);
-    let b = tell(out, a, b"     octet ");
-    let c = tell_number(out, b, at as u64);
-    let d = tell_piece(piece, out, c);
-    tell(
-        out,
-        d,
-        b" was changed, and the answer does not say that it is written\n",
-    )
-}
-
-fn judge_step(
-    fault: Fault,
-    said: &[u8; SAID],
-    name: &[u8; LINE],
-    out: &mut [u8; OUT],
-    state: State,
-) -> State {
-    match fault {
-        Fault::Nothing => pass_on(part(said, 0, state.said), out, state),
-        Fault::Changed(piece, at) => fail_changed(piece, at, name, out, state),
-    }
-}
-
-// Runs a step whose line was read. `end` is the end of its octets and `ours` the length of our CID.
-fn run_step(
-    kind: u8,
-    rows: &mut [u64; ROWS],
-    held: &mut [u8; HELD],
-    lent: Lent,
-    values: &[u64; VALUES],
-    octets: &[u8; OCTETS],
-    end: usize,
-    ours: usize,
-    said: &mut [u8; SAID],
-) -> Ran {
-    match kind {
-        MESSAGE => message_step(rows, held, lent, values, octets, ours, said),
-        ELAPSED => elapsed_step(rows, lent, values, said),
-        LEAVE => leave_step(rows, lent, values, octets, said),
-        READ => read_step(values, octets, said),
-        WRITE => write_step(values, octets, end, said),
-        _ => block_step(values, octets, said),
-    }
-}
-
-// Whether a step is lent a table that cannot be lent: the library takes its eight records by value.
-fn lacks_table(kind: u8, lent: Lent) -> bool {
-    if LEAVE < kind {
-        return false;
-    }
-    lent.table != 8
-}
-
-fn take_step(
-    kind: u8,
-    end: usize,
-    rows: &mut [u64; ROWS],
-    held: &mut [u8; HELD],
-    values: &[u64; VALUES],
-    octets: &[u8; OCTETS],
-    said: &mut [u8; SAID],
-    name: &[u8; LINE],
-    out: &mut [u8; OUT],
-    state: State,
-) -> State {
-    let lent = state.lent;
-    if lacks_table(kind, lent) {
-        let st = fail(name, out, state, state.line);
-        return tell(
-            out,
-            st,
-            b"     a table of another number of records than 8 cannot be lent yet\n",
-        );
-    }
-    let ran = run_step(
-        kind,
-        rows,
-        held,
-        lent,
-        values,
-        octets,
-        end,
-        state.ours,
-        said,
-    );
-    let fault = ran.fault;
-    judge_step(fault, said, name, out, with_step(state, ran.said))
-}
-
-// ---- reading a line
-
-fn read_channel(
-    line: &[u8],
-    head: Spot,
-    values: &mut [u64; VALUES],
-    octets: &mut [u8; OCTETS],
-    said: &mut [u8; SAID],
-) -> Spot {
-    if !head.ok {
-        return head;
-    }
-    let spot = read_kind(CHANNEL, line, head, values, octets, said);
-    read_choice(
-        QUIET,
-        TABLE,
-        b"the phase of the gap: quiet, standoff or waiting",
-        line,
-        spot,
-        values,
-        octets,
-        said,
-    )
-}
-
-// The message of a `write`, behind its room.
-fn read_written(
-    line: &[u8],
-    head: Spot,
-    values: &mut [u64; VALUES],
-    octets: &mut [u8; OCTETS],
-    said: &mut [u8; SAID],
-) -> Spot {
-    let spot = read_choice(
-        RELIABLE,
-        NULL,
-        b"a message: join, accept, refuse, leaving, nak, reliable, unreliable, get sessions or ack",
-        line,
-        head,
-        values,
-        octets,
-        said,
-    );
-    if value_at(values, 1) != ((JOIN - RELIABLE) as u64) {
-        return spot;
-    }
-    read_choice(
-        NULL,
-        KINDS,
-        b"an address: null, ipv4 or type",
-        line,
-        spot,
-        values,
-        octets,
-        said,
-    )
-}
-
-// What a line says: its kind, and how far it was read.
-struct Read {
-    kind: u8,
-    spot: Spot,
-}
-
-// Reads what follows the form of a kind.
-fn read_more(
-    kind: u8,
-    line: &[u8],
-    head: Spot,
-    values: &mut [u64; VALUES],
-    octets: &mut [u8; OCTETS],
-    said: &mut [u8; SAID],
-) -> Spot {
-    match kind {
-        RECORD => read_channel(line, head, values, octets, said),
-        LEND => read_choice(
-            TABLE,
-            RELIABLE,
-            b"a piece: table, held, deliver, reply or cells",
-            line,
-            head,
-            values,
-            octets,
-            said,
-        ),
-        WRITE => read_written(line, head, values, octets, said),
-        _ => head,
-    }
-}
-
-// Reads a line whose first word is w.
-fn read_line(
-    line: &[u8],
-    w: Word,
-    values: &mut [u64; VALUES],
-    octets: &mut [u8; OCTETS],
-    said: &mut [u8; SAID],
-) -> Read {
-    let start = start_spot();
-    let Number::Value(n) = kind_of(octets_of(line, w), OURS, CHANNEL) else {
-        let len = put(
-            said,
-            0,
-            b"case, ours, record, free, place, lend, message, elapsed, leave, block, read, write, = or #",
-        );
-        return Read {
-            kind: OURS,
-            spot: stop(start, w.from, len),
-        };
-    };
-    let kind = (n % 256) as u8;
-    clear_values(values);
-    let head = read_kind(kind, line, start, values, octets, said);
-    let last = read_more(kind, line, head, values, octets, said);
-    Read {
-        kind,
-        spot: read_end(line, last, said),
-    }
-}
-
-// A line that is no comment, no case and no expectation. Its first word is w.
+// A line that is no comment, no case and no expectation, unless its case has failed. Its first word is w.
 fn run_line(
     line: &[u8],
     w: Word,
     rows: &mut [u64; ROWS],
     held: &mut [u8; HELD],
-    values: &mut [u64; VALUES],
     octets: &mut [u8; OCTETS],
     said: &mut [u8; SAID],
     name: &[u8; LINE],
     out: &mut [u8; OUT],
     state: State,
 ) -> State {
-    let got = read_line(line, w, values, octets, said);
-    let kind = got.kind;
-    let spot = got.spot;
+    let st = begin_line(line, said, name, out, state);
+    if st.broken {
+        return st;
+    }
+    let mut values = [0u64; VALUES];
+    let kind = line_kind(line, w);
+    let spot = read_line(kind, line, w, &mut values, octets, said);
     if !spot.ok {
         let expected = part(said, 0, spot.said);
-        return fail_reading(line, spot.at, expected, name, out, state);
+        return fail_reading(line, spot.at, expected, name, out, st);
     }
-    let end = spot.octets;
-    if kind < MESSAGE {
-        return set_up(kind, rows, held, values, octets, end, state);
-    }
-    take_step(
+    take_read(
         kind,
-        end,
+        spot.octets,
         rows,
         held,
-        values,
+        &values,
         octets,
         said,
         name,
         out,
-        state,
+        st,
     )
 }
 
 // ---- cases
 
-// A new case: its name is the rest of the line from `from` on.
-fn open_case(
-    line: &[u8],
-    from: usize,
-    rows: &mut [u64; ROWS],
-    held: &mut [u8; HELD],
-    octets: &mut [u8; OCTETS],
-    name: &mut [u8; LINE],
-    out: &mut [u8; OUT],
-    state: State,
-) -> State {
-    let closed = close_case(name, out, state);
-    let mut st = keep(line, out, closed);
+fn clear_ours(octets: &mut [u8; OCTETS]) {
+    put(octets, 0, &[0; 16]);
+}
+
+// The table, the held octets and our CID are as a case starts with them.
+fn start_case(rows: &mut [u64; ROWS], held: &mut [u8; HELD], octets: &mut [u8; OCTETS]) {
     clear(rows);
     clear_held(held);
     clear_ours(octets);
+}
+
+// The name of a case is the rest of its line from `from` on: the answer is its length.
+fn keep_name(line: &[u8], from: usize, name: &mut [u8; LINE]) -> usize {
     let w = word_at(line, from);
-    let len = put(name, 0, part(line, w.from, trimmed_end(line)));
+    put(name, 0, part(line, w.from, trimmed_end(line)))
+}
+
+// A case is open whose name has this length.
+fn with_name(state: State, len: usize) -> State {
+    let mut st = state;
     st.open = true;
     st.broken = false;
     st.name = len;
@@ -536,8 +119,98 @@ fn open_case(
     st
 }
 
-fn clear_ours(octets: &mut [u8; OCTETS]) {
-    put(octets, 0, &[0; 16]);
+// The end of a case.
+pub fn take_end(said: &[u8; SAID], name: &[u8; LINE], out: &mut [u8; OUT], state: State) -> State {
+    let st = close_step(said, name, out, state);
+    close_case(name, out, st)
+}
+
+// A new case: its name is the rest of the line from `from` on.
+fn open_case(
+    line: &[u8],
+    from: usize,
+    rows: &mut [u64; ROWS],
+    held: &mut [u8; HELD],
+    octets: &mut [u8; OCTETS],
+    said: &[u8; SAID],
+    name: &mut [u8; LINE],
+    out: &mut [u8; OUT],
+    state: State,
+) -> State {
+    let closed = take_end(said, name, out, state);
+    start_case(rows, held, octets);
+    let len = keep_name(line, from, name);
+    keep(line, out, with_name(closed, len))
+}
+
+// ---- lines
+
+fn fail_long(name: &[u8; LINE], out: &mut [u8; OUT], state: State) -> State {
+    fail_with(
+        name,
+        out,
+        state,
+        state.line,
+        b"a line of at most 200000 characters",
+        b"a longer one",
+    )
+}
+
+// The end of a line that is too long.
+fn take_long_line(
+    end: &[u8],
+    said: &[u8; SAID],
+    name: &[u8; LINE],
+    out: &mut [u8; OUT],
+    state: State,
+) -> State {
+    let kept = keep(end, out, state);
+    let closed = close_step(said, name, out, kept);
+    if closed.broken {
+        return closed;
+    }
+    fail_long(name, out, closed)
+}
+
+// What a turn of the source found: a piece or the end of a line that is too long, or a line, by its first word.
+enum Found {
+    Nothing,
+    Piece,
+    LongEnd,
+    Comment,
+    Expected,
+    Case,
+    Other,
+}
+
+fn is_case(line: &[u8], w: Word) -> bool {
+    is_same(octets_of(line, w), b"case")
+}
+
+fn line_found(line: &[u8], w: Word) -> Found {
+    if w.to <= w.from {
+        return Found::Comment;
+    }
+    let first = peek(line, w.from);
+    if first == b'#' {
+        return Found::Comment;
+    }
+    if first == b'=' {
+        return Found::Expected;
+    }
+    if is_case(line, w) {
+        return Found::Case;
+    }
+    Found::Other
+}
+
+fn found_by(turn: Turn, line: &[u8], w: Word) -> Found {
+    match turn {
+        Turn::Line => line_found(line, w),
+        Turn::Piece => Found::Piece,
+        Turn::LongEnd => Found::LongEnd,
+        _ => Found::Nothing,
+    }
 }
 
 fn next_line(state: State) -> State {
@@ -547,73 +220,35 @@ fn next_line(state: State) -> State {
     st
 }
 
-// A case is open from its first line that is no comment.
-fn with_case(state: State) -> State {
-    let mut st = state;
-    st.open = true;
-    st
+// Every line has a number, also one that is too long.
+fn counted(turn: Turn, state: State) -> State {
+    match turn {
+        Turn::Line | Turn::LongEnd => next_line(state),
+        _ => state,
+    }
 }
 
-// One line of the file, without its end.
-pub fn take_line(
+// What one turn of the source found, without its end.
+pub fn take_turn(
+    turn: Turn,
     line: &[u8],
     rows: &mut [u64; ROWS],
     held: &mut [u8; HELD],
-    values: &mut [u64; VALUES],
     octets: &mut [u8; OCTETS],
     said: &mut [u8; SAID],
     name: &mut [u8; LINE],
     out: &mut [u8; OUT],
     state: State,
 ) -> State {
-    let st = next_line(state);
+    let st = counted(turn, state);
     let w = word_at(line, 0);
-    if w.to <= w.from {
-        return keep(line, out, st);
+    match found_by(turn, line, w) {
+        Found::Nothing => st,
+        Found::Piece => pass_on(line, out, st),
+        Found::LongEnd => take_long_line(line, said, name, out, st),
+        Found::Comment => keep(line, out, st),
+        Found::Expected => take_expected(line, w.from, said, name, out, st),
+        Found::Case => open_case(line, w.to, rows, held, octets, said, name, out, st),
+        Found::Other => run_line(line, w, rows, held, octets, said, name, out, st),
     }
-    let first = peek(line, w.from);
-    if first == b'#' {
-        return keep(line, out, st);
-    }
-    if first == b'=' {
-        return take_expected(line, w.from, said, name, out, st);
-    }
-    let closed = close_step(said, name, out, st);
-    if is_same(octets_of(line, w), b"case") {
-        return open_case(line, w.to, rows, held, octets, name, out, closed);
-    }
-    let kept = keep(line, out, with_case(closed));
-    if kept.broken {
-        return kept;
-    }
-    run_line(line, w, rows, held, values, octets, said, name, out, kept)
-}
-
-// The end of a line that is too long.
-pub fn take_long_line(
-    end: &[u8],
-    said: &[u8; SAID],
-    name: &[u8; LINE],
-    out: &mut [u8; OUT],
-    state: State,
-) -> State {
-    let kept = keep(end, out, next_line(state));
-    let closed = close_step(said, name, out, kept);
-    if closed.broken {
-        return closed;
-    }
-    fail_with(
-        name,
-        out,
-        closed,
-        closed.line,
-        b"a line of at most 200000 characters",
-        b"a longer one",
-    )
-}
-
-// The end of the file.
-pub fn take_end(said: &[u8; SAID], name: &[u8; LINE], out: &mut [u8; OUT], state: State) -> State {
-    let st = close_step(said, name, out, state);
-    close_case(name, out, st)
 }

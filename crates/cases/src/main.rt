@@ -1,51 +1,28 @@
 // Runs recorded cases over the library: `cases FILE` judges each case of a file, `cases show FILE` writes the file with what each step gives
 // now. With no file it is standard input. A file is read as it comes and never held whole.
 mod lines;
+mod steps;
 
-use forms::OCTETS;
-use forms::SAID;
-use forms::VALUES;
+use case_forms::OCTETS;
+use case_forms::SAID;
+use case_rooms::lent::HELD;
+use case_rows::ROWS;
+use case_stream::report::LINE;
+use case_stream::report::OUT;
+use case_stream::report::State;
+use case_stream::report::first_state;
+use case_stream::report::flush;
+use case_stream::report::tally;
+use case_stream::source::BUFFER;
+use case_stream::source::Source;
+use case_stream::source::Turn;
+use case_stream::source::first_source;
+use case_stream::source::turn_on;
+use case_text::is_same;
+use case_text::part;
 use libc::STDERR_FILENO;
 use lines::take_end;
-use lines::take_line;
-use lines::take_long_line;
-use rooms::lent::HELD;
-use rows::ROWS;
-use stream::report::LINE;
-use stream::report::OUT;
-use stream::report::State;
-use stream::report::first_state;
-use stream::report::flush;
-use stream::report::pass_on;
-use stream::report::tally;
-use stream::source::BUFFER;
-use stream::source::Source;
-use stream::source::Turn;
-use stream::source::first_source;
-use stream::source::turn_on;
-use text::is_same;
-use text::part;
-
-// What one turn of the source found.
-fn take_turn(
-    turn: Turn,
-    line: &[u8],
-    rows: &mut [u64; ROWS],
-    held: &mut [u8; HELD],
-    values: &mut [u64; VALUES],
-    octets: &mut [u8; OCTETS],
-    said: &mut [u8; SAID],
-    name: &mut [u8; LINE],
-    out: &mut [u8; OUT],
-    state: State,
-) -> State {
-    match turn {
-        Turn::Line => take_line(line, rows, held, values, octets, said, name, out, state),
-        Turn::Piece => pass_on(line, out, state),
-        Turn::LongEnd => take_long_line(line, said, name, out, state),
-        _ => state,
-    }
-}
+use lines::take_turn;
 
 // Whether the input goes on.
 fn goes_on(turn: Turn) -> bool {
@@ -61,7 +38,6 @@ fn run_all(fd: i32, show: bool) {
     let mut buffer = [0u8; BUFFER];
     let mut rows = [0u64; ROWS];
     let mut held = [0u8; HELD];
-    let mut values = [0u64; VALUES];
     let mut octets = [0u8; OCTETS];
     let mut said = [0u8; SAID];
     let mut name = [0u8; LINE];
@@ -81,7 +57,6 @@ fn run_all(fd: i32, show: bool) {
             line,
             &mut rows,
             &mut held,
-            &mut values,
             &mut octets,
             &mut said,
             &mut name,

@@ -4,11 +4,11 @@ use Rattle.cases.proofs.run_all.Statement.{statement}
 use Rattle.cases.proofs.run_all.Tie as tie
 
 abbrev Inv-loop : tie.InvT-loop
-Inv-loop fd show buffer₀ rows₀ held₀ values₀ octets₀ said₀ name₀ out₀ state₀ source₀ turns₀ buffer rows held values octets said name out state source turns =
+Inv-loop fd show buffer₀ rows₀ held₀ octets₀ said₀ name₀ out₀ state₀ source₀ turns₀ buffer rows held octets said name out state source turns =
     Unit {0}
 
 abbrev μ-loop : tie.MeasureT-loop
-μ-loop fd show buffer₀ rows₀ held₀ values₀ octets₀ said₀ name₀ out₀ state₀ source₀ turns₀ buffer rows held values octets said name out state source turns =
+μ-loop fd show buffer₀ rows₀ held₀ octets₀ said₀ name₀ out₀ state₀ source₀ turns₀ buffer rows held octets said name out state source turns =
     turns
 
 first-state-requires : tie.Need-first-state-requires Inv-loop μ-loop

@@ -1,0 +1,54 @@
+-- `is_kept` is safe and ends: each turn compares one octet of those lent with its copy. Assumes nothing.
+use borrow.Author.Needs.{needs}
+use Prim.Native.Nat.{_-_}
+use Rattle.case_rooms.proofs.lent.is_kept.Statement.{statement}
+use Rattle.case_rooms.proofs.lent.is_kept.Tie as tie
+
+abbrev Inv-loop : tie.InvT-loop
+Inv-loop held n end same₀ i₀ same i = Unit {0}
+
+abbrev μ-loop : tie.MeasureT-loop
+μ-loop held n end same₀ i₀ same i = end - i
+
+lent-of-requires : tie.Need-lent-of-requires Inv-loop μ-loop
+lent-of-requires c κs = search needs
+
+loop-holds : tie.Need-loop-holds Inv-loop μ-loop
+loop-holds c = search needs
+
+element-copy-out-same : tie.Need-element-copy-out-same Inv-loop μ-loop
+element-copy-out-same c = search needs
+
+add-same : tie.Need-add-same Inv-loop μ-loop
+add-same c = search needs
+
+element-copy-out-same-2 : tie.Need-element-copy-out-same-2 Inv-loop μ-loop
+element-copy-out-same-2 c = search needs
+
+add-i : tie.Need-add-i Inv-loop μ-loop
+add-i c = search needs
+
+loop-less : tie.Need-loop-less Inv-loop μ-loop
+loop-less c = search needs
+
+loop-again : tie.Need-loop-again Inv-loop μ-loop
+loop-again c = search needs
+
+returns : tie.Need-returns Inv-loop μ-loop
+returns c = search needs
+
+pub is-kept-spec : {M : Type 1} → statement M
+is-kept-spec =
+    tie.close
+    (tie.spec
+    Inv-loop
+    μ-loop
+    lent-of-requires
+    loop-holds
+    element-copy-out-same
+    add-same
+    element-copy-out-same-2
+    add-i
+    loop-less
+    loop-again
+    returns)
