@@ -10,13 +10,13 @@ use lib.ListN.{length, getD, take, drop, take-append-drop}
 use lib.Seq.{getD-drop, take-all, take-length}
 use lib.Dec.{lit<, eqb}
 use borrow.Author.Tests.{leb-true, eqb-true, ne-eqb}
-use Rattle.octets.specs.Octets.{octets, part, numberAt, joined}
-use Rattle.octets.specs.Octets.{Octets}
+use Rattle.octets.specs.Octets.{octets, part, numberAt, joined, Octets}
 use Rattle.octets.proofs.Numbers.{octets-tail, octets-number, part-add, length-part, number-one}
-use Rattle.message.specs.Lengths.{reliableWrapper, unreliableWrapper, join, joinRefuse, joinAccept, leaving, ack, nak, getSessions, null, ipv4, Row, rows, look, lengthOf}
+use Rattle.message.specs.Lengths.{reliableWrapper, unreliableWrapper, join, joinRefuse, joinAccept, leaving, ack, nak, getSessions, null, ipv4, rows, look, lengthOf}
 use Rattle.message.specs.Layouts.{cidAt, membershipOf, wrapperOf, parametersAt, endpointAt, addressOf, joinOf}
 use Rattle.message.specs.Reading.{readableJoin, readable, fixedOf, messageOf, readMessage}
 use Rattle.message.proofs.Readable.{null-length, ipv4-length, join-length, rowless}
+use Rattle.message.specs.declared.Row.{Row}
 use Rattle.message.specs.declared.Message.{Message}
 use Rattle.message.specs.declared.Message.the-variants as message
 use Rattle.message.specs.declared.MessageRead.the-variants.{Read, Unreadable}
