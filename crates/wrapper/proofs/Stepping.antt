@@ -59,15 +59,18 @@ module _
     (f : p ≡ placed h w)
     (g : s ≡ released (p .after))
   where
-    pub modulus-stands : 0 < r .terms .modulus → 0 < s .after .terms .modulus
+    pub placed-modulus : 0 < r .terms .modulus → 0 < p .after .terms .modulus
     unfolding heard
-    modulus-stands z = rw (g, released-terms (p .after), f, placed-terms h w, e) z
+    placed-modulus z = rw (f, placed-terms h w, e) z
+
+    pub released-modulus : 0 < p .after .terms .modulus → 0 < s .after .terms .modulus
+    released-modulus z = rw (g, released-terms (p .after)) z
 
     pub taken-so : (l : Settled) → l ≡ settled (s .after) w → planOf (p .fate) s l ≡ taken r w
     unfolding taken
     taken-so l k = rw (k, g, f, e)
 
-pub ruleset steps = (modulus-stands, taken-so)
+pub ruleset steps = (placed-modulus, released-modulus, taken-so)
 
 -- ---- the whole step
 
