@@ -10,7 +10,6 @@ use case_rooms::Piece;
 use case_rooms::Ran;
 use case_rooms::fault_in;
 use case_rooms::lent::FILL;
-use case_rooms::lent::Lent;
 use case_rooms::lent::ROOM;
 use case_rooms::lent::first_changed;
 use case_rooms::lent::lent_of;
@@ -22,6 +21,7 @@ use case_rows::byte;
 use case_rows::keep_answer;
 use case_rows::short;
 use case_rows::table_of;
+use case_stream::report::Lent;
 use case_text::part;
 
 // What a leave call answers besides the table.

@@ -17,39 +17,6 @@ pub const HELD: usize = 131072;
 // A place and a delivery cell have this many octets.
 pub const MOST: usize = 1454;
 
-// How much of each piece is lent to the next call.
-pub struct Lent {
-    pub table: usize,
-    pub held: usize,
-    pub deliver: usize,
-    pub reply: usize,
-    pub cells: usize,
-}
-
-// What the paper asks for: eight records, their four places each, five deliveries, and 64 octets for a reply and for each record's cell.
-pub fn lent_right() -> Lent {
-    Lent {
-        table: 8,
-        held: 46528,
-        deliver: 7270,
-        reply: 64,
-        cells: 512,
-    }
-}
-
-// How much is lent, with n of a piece.
-pub fn lend(lent: Lent, piece: u64, n: usize) -> Lent {
-    let mut l = lent;
-    match piece {
-        0 => l.table = n,
-        1 => l.held = n,
-        2 => l.deliver = n,
-        3 => l.reply = n,
-        _ => l.cells = n,
-    }
-    l
-}
-
 // How much of a piece of `len` octets is lent.
 pub fn lent_of(n: usize, len: usize) -> usize
     ensures { λ r. ⌜ r ≤ len ⌝ }

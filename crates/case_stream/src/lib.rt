@@ -1,5 +1,3 @@
-// What comes in and what goes out: the lines of the input as they come, what is kept from one to the next, what a step gave against the lines under
-// it, and the report of each case.
-pub mod judging;
+// What comes in and what goes out: the lines of the input as they come, what is kept from one to the next, and the report of each case.
 pub mod report;
 pub mod source;

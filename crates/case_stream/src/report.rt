@@ -1,7 +1,5 @@
 // What is kept from line to line, and what is written: the report of each case, or with `show` the file itself. Output waits in a lent array and is
 // written in large pieces. With `show`, what is wrong goes to standard error, so that standard output stays a case file.
-use case_rooms::lent::Lent;
-use case_rooms::lent::lent_right;
 use case_text::Word;
 use case_text::less;
 use case_text::next;
@@ -22,6 +20,39 @@ pub const LINE: usize = 200000;
 
 // Of a word that cannot be read this much is shown.
 const SHOWN: usize = 64;
+
+// How much of each piece is lent to the next call.
+pub struct Lent {
+    pub table: usize,
+    pub held: usize,
+    pub deliver: usize,
+    pub reply: usize,
+    pub cells: usize,
+}
+
+// What the paper asks for: eight records, their four places each, five deliveries, and 64 octets for a reply and for each record's cell.
+pub fn lent_right() -> Lent {
+    Lent {
+        table: 8,
+        held: 46528,
+        deliver: 7270,
+        reply: 64,
+        cells: 512,
+    }
+}
+
+// How much is lent, with n of a piece.
+pub fn lend(lent: Lent, piece: u64, n: usize) -> Lent {
+    let mut l = lent;
+    match piece {
+        0 => l.table = n,
+        1 => l.held = n,
+        2 => l.deliver = n,
+        3 => l.reply = n,
+        _ => l.cells = n,
+    }
+    l
+}
 
 // What is kept from line to line.
 pub struct State {

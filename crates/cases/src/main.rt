@@ -32,8 +32,36 @@ fn goes_on(turn: Turn) -> bool {
     }
 }
 
-// Reads to the end of the input and reports every case. All that is kept lies in these arrays, which the functions below are lent, since a
-// struct that held them would be copied at each call.
+// Reads to the end of the input, a turn at a time, and reports every case.
+fn run_turns(
+    fd: i32,
+    first: State,
+    buffer: &mut [u8; BUFFER],
+    rows: &mut [u64; ROWS],
+    held: &mut [u8; HELD],
+    octets: &mut [u8; OCTETS],
+    said: &mut [u8; SAID],
+    name: &mut [u8; LINE],
+    out: &mut [u8; OUT],
+) {
+    let mut state = first;
+    let mut source = first_source();
+    let mut turns = u64::MAX;
+    while 0 < turns {
+        source = turn_on(fd, buffer, source);
+        let turn = source.turn;
+        if !goes_on(turn) {
+            break;
+        }
+        let line = found_line(buffer, source);
+        state = take_turn(turn, line, rows, held, octets, said, name, out, state);
+        turns -= 1;
+    }
+    let turn = source.turn;
+    finish(turn, said, name, out, state);
+}
+
+// All that is kept lies in these arrays, which the functions are lent, since a struct that held them would be copied at each call.
 fn run_all(fd: i32, show: bool) {
     let mut buffer = [0u8; BUFFER];
     let mut rows = [0u64; ROWS];
@@ -42,31 +70,17 @@ fn run_all(fd: i32, show: bool) {
     let mut said = [0u8; SAID];
     let mut name = [0u8; LINE];
     let mut out = [0u8; OUT];
-    let mut state = first_state(show);
-    let mut source = first_source();
-    let mut turns = u64::MAX;
-    while 0 < turns {
-        source = turn_on(fd, &mut buffer, source);
-        let turn = source.turn;
-        if !goes_on(turn) {
-            break;
-        }
-        let line = found_line(&buffer, source);
-        state = take_turn(
-            turn,
-            line,
-            &mut rows,
-            &mut held,
-            &mut octets,
-            &mut said,
-            &mut name,
-            &mut out,
-            state,
-        );
-        turns -= 1;
-    }
-    let turn = source.turn;
-    finish(turn, &said, &name, &mut out, state);
+    run_turns(
+        fd,
+        first_state(show),
+        &mut buffer,
+        &mut rows,
+        &mut held,
+        &mut octets,
+        &mut said,
+        &mut name,
+        &mut out,
+    );
 }
 
 fn found_line(buffer: &[u8; BUFFER], source: Source) -> &[u8] {

@@ -1,18 +1,15 @@
--- `run_all` is safe and ends: each turn spends one of the turns that there are. Assumes nothing.
+-- `run_turns` is safe and ends: each turn spends one of the turns that there are. Assumes nothing.
 use borrow.Author.Needs.{needs}
-use Rattle.cases.proofs.run_all.Statement.{statement}
-use Rattle.cases.proofs.run_all.Tie as tie
+use Rattle.cases.proofs.run_turns.Statement.{statement}
+use Rattle.cases.proofs.run_turns.Tie as tie
 
 abbrev Inv-loop : tie.InvT-loop
-Inv-loop fd show buffer₀ rows₀ held₀ octets₀ said₀ name₀ out₀ state₀ source₀ turns₀ buffer rows held octets said name out state source turns =
+Inv-loop fd buffer₀ rows₀ held₀ octets₀ said₀ name₀ out₀ state₀ source₀ turns₀ buffer rows held octets said name out state source turns =
     Unit {0}
 
 abbrev μ-loop : tie.MeasureT-loop
-μ-loop fd show buffer₀ rows₀ held₀ octets₀ said₀ name₀ out₀ state₀ source₀ turns₀ buffer rows held octets said name out state source turns =
+μ-loop fd buffer₀ rows₀ held₀ octets₀ said₀ name₀ out₀ state₀ source₀ turns₀ buffer rows held octets said name out state source turns =
     turns
-
-first-state-requires : tie.Need-first-state-requires Inv-loop μ-loop
-first-state-requires c κs = search needs
 
 first-source-requires : tie.Need-first-source-requires Inv-loop μ-loop
 first-source-requires c κs = search needs
@@ -47,13 +44,12 @@ finish-requires c κs = search needs
 returns : tie.Need-returns Inv-loop μ-loop
 returns c = search needs
 
-pub run-all-spec : {M : Type 1} → statement M
-run-all-spec =
+pub run-turns-spec : {M : Type 1} → statement M
+run-turns-spec =
     tie.close
     (tie.spec
     Inv-loop
     μ-loop
-    first-state-requires
     first-source-requires
     loop-holds
     turn-on-requires
