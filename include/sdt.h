@@ -4,10 +4,12 @@
  *
  * What is promised of every function here, for every input:
  *  - It returns. It reads only the octets that you lend it, and writes only the room that you lend it.
- *  - Nothing is kept between calls, nothing is allocated, nothing is printed. Calls from several threads do not disturb each other.
+ *  - Nothing is kept between calls, allocated or printed. Calls from several threads do not disturb each other.
  *  - The same arguments give the same answer.
  *  - A refusal changes nothing that you lent.
- * These promises, and what each answer is, are proved of the library's source; README.md says what the proofs rest on.
+ * That it returns, what it reads and writes, what each answer is and that a refusal changes nothing are proved of the library's source; README.md
+ * says what the proofs rest on. The library has no global variables and calls no outside function, so nothing is kept, allocated or printed, and
+ * calls from several threads do not meet.
  *
  * What the caller owes, since C cannot check it:
  *  - A pointer to octets points to as many as the length behind it says, and those of `room` are writable. No alignment is needed. If the

@@ -1,6 +1,6 @@
 """The scope paper's rules in Python: blocks, messages and the calls over a table, one function for each rule. It was written from the
 paper alone, so that case files can be recorded and judged without the library. Nothing here is fast or clever on purpose; faults.py makes
-hundreds of small changes to this file, and each has to be noticed by a case file. So that a faulty member gives a wrong answer where Python
+some two thousand small changes of this file, and each has to be noticed by a case file. So that a faulty member gives a wrong answer where Python
 would break down, a field that was never read is 0, a number too large for its octets is cut, a message of no known kind is taken for the last
 one, and a search that finds nothing gives a number.
 """

@@ -78,7 +78,8 @@ use Rattle.demands.proofs.TableStays.{table-stays}
 use Rattle.demands.specs.TwoRuns.{Joined}
 use Rattle.demands.proofs.Lemmas.OwnLaw.{own-law}
 use Rattle.demands.proofs.Lemmas.Sample as sample
-use Rattle.demands.proofs.NothingInvented.{each-to, nothing-invented, comes, lawful-comes, delivers-both}
+use Rattle.demands.proofs.Lemmas.Lists.{each-to}
+use Rattle.demands.proofs.NothingInvented.{nothing-invented, comes, lawful-comes, delivers-both}
 
 -- ---- one step
 

@@ -1,7 +1,8 @@
 -- That the theorems on single calls are not empty: calls that meet what they assume. A message call whose held octets have the wrong size is refused by 1, an elapsed call
 -- over 1,000 by 3, a leave call for a channel that nobody has by 6, and each leaves everything; a Join that makes record 0 leaves record 2 and its places; and a
--- wrapper that closes a gap delivers two, the first of which is read in the first cell.
+-- wrapper that closes a gap delivers two, the first of which is read in the first cell; and time that passes keeps a well-formed table well formed.
 use Prim.Native.Nat.{ℕ, _*_}
+use Prim.{tt}
 use mathlib.Core.List.{List, [], _∷_}
 use mathlib.Core.Logic.{_≢_}
 use mathlib.Core.Path.{_≡_, refl, sym, subst, _∙_}
@@ -38,6 +39,9 @@ use Rattle.demands.proofs.Lemmas.Sample as sample
 use Rattle.demands.proofs.InTurn.{makes-with}
 use Rattle.demands.specs.Order.{asSent}
 use Rattle.demands.proofs.RoomsSay.{deliveries-stand}
+use Rattle.demands.specs.Calls as calls
+use Rattle.demands.specs.Calls.{tableStep, Right}
+use Rattle.demands.proofs.TableStays.{table-stays}
 
 -- ---- refused calls
 
@@ -111,3 +115,8 @@ first-cell room l =
     two
     (deliveries-stand (sample.stateOf sample.free 0) (sample.joined-one .right) deliverSize replySize (sample.cid 1 2) (replicate 16 0) reliableWrapper
     (sample.wrapperData 11 (4 ∷ 5 ∷ 6 ∷ [])) 0 room (asSent 0 []) 0 l (rw two (lit< tt)))
+
+-- ---- a call that keeps the table well formed
+
+stays-right : Right (tableStep (sample.stateOf sample.free 0) (calls.elapsed 512 20) .state)
+stays-right = table-stays (sample.stateOf sample.free 0) (calls.elapsed 512 20) (sample.joined-one .right) tt

@@ -3,6 +3,7 @@ pub mod Back
 pub mod Again
 pub mod Checks
 pub mod Running
+pub mod Lists
 pub mod Kept
 pub mod OneStep
 pub mod Sounds

@@ -4,7 +4,7 @@
 -- at least one number from R + 1 on, none past K, the highest that is known to have been sent, and none that is held (`only-missing`). Both assume that the channel is
 -- joined in a right table at the start and that the data of messages are octets (`Joined`, `Lawful`); the example at the end meets that, delivers two
 -- wrappers and sends a NAK.
-use Prim.Native.Nat.{ℕ, suc, _+_, _<_, _≤_}
+use Prim.Native.Nat.{ℕ, _+_, _<_, _≤_}
 use mathlib.Core.Bool.{Bool, true, false, false≢true, cond}
 use mathlib.Core.List.{List, [], _∷_, _++_, map}
 use mathlib.Core.Logic.{_⊎_, inl, inr, _≢_}
@@ -62,6 +62,7 @@ use Rattle.demands.specs.Calls as calls
 use Rattle.demands.specs.Calls.{Call, State, tableStep, Lawful}
 use Rattle.demands.specs.Channel.{Channel, Told, names, isCid, own, wrapperOn, one, live, channelAt, viewAt, passed, planned, elapsedOn, slab}
 use Rattle.demands.specs.Order.{deliveredIn, deliveredAll, asSent, BroughtBy, here, later, From, received, kept, NakRight}
+use Rattle.demands.proofs.Lemmas.Lists.{each-to, each-append, each-of}
 use Rattle.demands.proofs.Lemmas.Running.{along}
 use Rattle.demands.proofs.Lemmas.Slabs.{slab-place, slab-after}
 use Rattle.demands.proofs.Lemmas.OneStep.{refuses, joins, brought, Does, answers, wraps, passes, leaves, does}
@@ -71,20 +72,6 @@ use Rattle.demands.specs.TwoRuns.{Joined}
 use Rattle.demands.proofs.Lemmas.OwnLaw.{own-law}
 use Rattle.demands.proofs.OwnStepsOnly.{own-run}
 use Rattle.demands.proofs.Lemmas.Sample as sample
-
--- ---- lists
-
-pub each-to : {A : Type 0} {P Q : A → Type 0} (xs : List A) → ((x : A) → P x → Q x) → Each P xs → Each Q xs
-each-to [] f none = none
-each-to (x ∷ xs) f (more p ps) = more (f x p) (each-to xs f ps)
-
-each-append : {A : Type 0} {P : A → Type 0} (xs ys : List A) → Each P xs → Each P ys → Each P (xs ++ ys)
-each-append [] ys none qs = qs
-each-append (x ∷ xs) ys (more p ps) qs = more p (each-append xs ys ps qs)
-
-each-of : {A : Type 0} {P : A → Type 0} (f : ℕ → A) (xs : List ℕ) → ((k : ℕ) → k < length xs → P (f (getD xs k 0))) → Each P (map f xs)
-each-of f [] h = none
-each-of f (x ∷ xs) h = more (h 0 (omega arith)) (each-of f xs (λ k l. h (suc k) (omega arith)))
 
 -- ---- one step
 

@@ -2,12 +2,12 @@
 -- `elapsed-number`, `leave-number`); so a number is given exactly if its condition holds and no earlier one, and a call is accepted exactly if none holds
 -- (`message-refused`, `message-accepted` and the like for the other two). A refusal leaves the table and every lent octet, and its answer is the number alone
 -- (`message-leaves`, `elapsed-leaves`, `leave-leaves`). Each condition stands by itself under the words of 01's table. Assumes nothing.
-use Prim.Native.Nat.{ℕ, _+_, _*_}
+use Prim.Native.Nat.{ℕ}
 use mathlib.Core.Logic.{_↔_}
 use native.Mathlib.Omega.{arith}
-use mathlib.Core.Path.{_≡_, refl, sym, ap, _∙_}
+use mathlib.Core.Path.{_≡_, refl, sym, _∙_}
 use mathlib.Core.Bool.{Bool, true, false, cond, not, _&&_, _||_}
-use mathlib.Core.List.{List, [], _∷_, map}
+use mathlib.Core.List.{List, [], _∷_}
 use lib.ListN.{length, getD}
 use lib.Dec.{ltb, eqb}
 use borrow.Author.Tests.{eqb-true}
@@ -29,21 +29,19 @@ use Rattle.wrapper.specs.Taken.{steppedBy, stepped}
 use Rattle.wrapper.specs.declared.Arrived.{Arrived}
 use Rattle.wrapper.specs.declared.Judged.{Judged}
 use Rattle.wrapper.specs.declared.Judged.the-variants as judging
-use Rattle.gap.specs.Elapsed.{gives}
-use Rattle.gap.specs.declared.Event.the-variants as event
-use Rattle.sending.specs.Sent.{eventOf}
 use Rattle.carry.specs.Carried.{deliverFrom, listed}
 use Rattle.table.specs.Table.{same, found, tableFormed, recordAt}
 use Rattle.table.specs.declared.Found.{Found}
 use Rattle.table.specs.declared.Found.the-variants as search
 use Rattle.asking.specs.Asking.{arrivedOf, wrapperFor, wrapperAsks, joinAsks, messageAsks, readAsks, askedOf}
 use Rattle.asking.specs.declared.Asked.the-variants as asked
-use Rattle.member.specs.Sizes.{cellSize, messageSizes, elapsedSizes, leaveSizes}
+use Rattle.member.specs.Sizes.{messageSizes, elapsedSizes, leaveSizes}
 use Rattle.member.specs.Messages.{Outcome, isFound, refusedMessage, joinOutcome, planOutcome, steppedOutcome, wrapperOutcome, askedOutcome, messageOutcome, numberOf, messaged, messageEnd}
-use Rattle.member.specs.Elapsing.{longest, Passing, refusedElapsed, passing, elapsedOutcome, cellOf, cellsFrom, elapsedEnd}
+use Rattle.member.specs.Elapsing.{longest, Passing, refusedElapsed, passing, elapsedOutcome, elapsedEnd}
 use Rattle.member.specs.Leaving.{Departing, refusedLeave, departing, leaveFor, leaveOutcome, left, leaveEnd}
 use Rattle.member.specs.declared.Given.the-variants as given
 use Rattle.demands.specs.Refusals.{firstOf, First, None, check, unreadable, isWrapper, tooLong, recordFound, isOld, isInconsistent, messageChecks, elapsedChecks, leaveChecks, messageStands, elapsedStands, leaveStands}
+use Rattle.demands.proofs.Lemmas.Lists.{standing, silent, quiet-cells}
 use Rattle.demands.proofs.Lemmas.Checks.{Numbered, empty, numbered, first-is-given, given-is-first, none-is-given, given-is-none}
 
 -- ---- elapsed and leave calls
@@ -72,22 +70,6 @@ elapsed-number ts cells ms = by (elapsed-told ts cells ms)
     by : {k : ℕ} {p : Passing} → Elapsed ts k p → p .number ≡ k
     by (refused n) = refl
     by (accepted p e) = e
-
--- records that stand make the table that was, and what they send leaves the cells
-pub standing : (ts : List Record) → map (λ e. e .after) (map (λ r. gives r event.Nothing) ts) ≡ ts
-standing [] = refl
-standing (r ∷ ts) = ap (λ us. r ∷ us) (standing ts)
-
-silent : (ts : List Record) (i : ℕ) (room : List ℕ) → cellsFrom i (map (λ r. gives r event.Nothing) ts) room ≡ room
-unfolding cellsFrom eventOf
-silent [] i room = refl
-silent (r ∷ ts) i room =
-    ap (λ after. cellsFrom (i + 1) (map (λ r. gives r event.Nothing) ts) after) (sym (splice-nothing room (i * cellSize))) ∙ silent ts (i + 1) room
-
-quiet-cells : (ts : List Record) → map cellOf (map (λ r. gives r event.Nothing) ts) ≡ map (λ r. record { event = event.Nothing; len = 0 }) ts
-unfolding eventOf
-quiet-cells [] = refl
-quiet-cells (r ∷ ts) = ap (λ cs. record { event = event.Nothing; len = 0 } ∷ cs) (quiet-cells ts)
 
 -- a refused elapsed call leaves the table and every octet of the cells, and answers its number alone: no record has sent anything
 pub elapsed-leaves : (ts : List Record) (cells : List ℕ) (ms : ℕ) → (firstOf (elapsedChecks ts (length cells) ms) ≡ 0 → ⊥)

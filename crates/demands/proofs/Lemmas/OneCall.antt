@@ -31,7 +31,7 @@ use Rattle.demands.specs.Calls as calls
 use Rattle.demands.specs.Calls.{Call, State, elapsedCame, leaveCame, tableStep, Right}
 use Rattle.demands.specs.Channel as channels
 use Rattle.demands.specs.Channel.{Channel, Told, refused, left, stays, elapsedOn, leaveOn, one, isCid, own, entryAt, channelAt, viewAt, slab}
-use Rattle.demands.proofs.Refusals.{standing}
+use Rattle.demands.proofs.Lemmas.Lists.{standing}
 use Rattle.demands.proofs.Lemmas.Owned.{sender-is, is-sender, leave-sizes, Has, it-has, meets}
 use Rattle.demands.proofs.Lemmas.OneMessage.{message-own, message-other}
 
