@@ -1,4 +1,6 @@
 // What a message asks of the table: refused by 4 to 7, a Join, or a step of one record by a wrapper.
+#![tactic(auto)]
+
 ghost use Rattle.std.specs.Prelude.{◌≡◌, length};
 ghost use Rattle.message.specs.Layouts.{cid_at};
 ghost use Rattle.asking.specs.Asking.{arrived_of, wrapper_asks, join_asks, asked_of};
@@ -13,7 +15,7 @@ use wrapper::Arrived;
 const FIELDS: usize = 20;
 
 // What a message asks of the table: nothing, as it is refused by 4 to 7; a Join; or a step of the record `at` by a wrapper.
-#[derive(Drop)]
+#[derive(Clone, Copy)]
 pub enum Asked {
     Refused(u8),
     Join(Join),

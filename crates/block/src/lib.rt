@@ -1,4 +1,6 @@
 // Reading a block of base messages: where the vector and the data of each message lie, or where the first malformed PDU begins.
+#![tactic(auto)]
+
 ghost use Rattle.std.specs.Prelude.{◌≡◌, cond, ◌+◌, ◌^◌, ◌≤◌, ◌<◌, length, get_or};
 ghost use Rattle.block.specs.Pdu.{has_v, has_d, head_size, fields, size_at, lacks_flag, left_over, found_at, pdu_at, Within};
 ghost use Rattle.block.specs.Block.{scan_of};
@@ -9,7 +11,7 @@ use octets::u8_at;
 
 // A message of a block: the place of its vector, and the place and length of its data.
 #[repr(C)]
-#[derive(Drop)]
+#[derive(Clone, Copy)]
 pub struct Found {
     pub vector: usize,
     pub place: usize,
@@ -17,14 +19,14 @@ pub struct Found {
 }
 
 // What stands where a PDU begins: a whole PDU, with its message and the place behind it, or a malformed one.
-#[derive(Drop)]
+#[derive(Clone, Copy)]
 pub enum Pdu {
     Whole { found: Found, next: usize },
     Bad,
 }
 
 // What reading one message of a block answers. `TooLong` is refusal 1; `Malformed` is refusal 11, with the place of the first bad PDU.
-#[derive(Drop)]
+#[derive(Clone, Copy)]
 pub enum BlockRead {
     Message(Found),
     Fewer,
@@ -34,14 +36,14 @@ pub enum BlockRead {
 
 // Where reading goes on: the place of the next PDU, and the message before it, from which that PDU may take its vector or its data.
 #[repr(C)]
-#[derive(Drop)]
+#[derive(Clone, Copy)]
 pub struct Cursor {
     pub next: usize,
     pub before: Found,
 }
 
 // What opening a block answers: how many messages it has and the cursor before them, or refusal 1 or 11.
-#[derive(Drop)]
+#[derive(Clone, Copy)]
 pub enum Opened {
     Messages { count: usize, cursor: Cursor },
     TooLong,
@@ -49,7 +51,7 @@ pub enum Opened {
 }
 
 // What reading on answers: the next message and the cursor behind it, that there is none, or that the cursor cannot be this block's.
-#[derive(Drop)]
+#[derive(Clone, Copy)]
 pub enum Next {
     Message { found: Found, cursor: Cursor },
     End,
@@ -57,7 +59,7 @@ pub enum Next {
 }
 
 // One pass over a block: the place of its first malformed PDU, or how many messages it has and the one that was asked for.
-#[derive(Drop)]
+#[derive(Clone, Copy)]
 pub enum Scanned {
     Stopped(usize),
     Through { count: usize, found: Found },

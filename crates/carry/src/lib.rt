@@ -1,4 +1,6 @@
 // A wrapper's plan carried out in lent octets: its contents into a held place or a delivery cell, and what is released into the cells after it.
+#![tactic(auto)]
+
 ghost use Rattle.std.specs.Prelude.{◌≡◌, [], ◌∷◌, ℕ, ◌+◌, ◌*◌, ◌<◌, ◌≤◌, length, take};
 ghost use Rattle.record.specs.WellFormed.{most_contents};
 ghost use Rattle.carry.specs.Carried.{place_begins, held_after, at_once, from_place, from_places, delivered_by, deliver_from, no_deliveries, one_more, listed};
@@ -11,7 +13,7 @@ use record::Place;
 use wrapper::{Arrived, Fate, Plan};
 
 // A delivered wrapper. Its contents are the first `len` octets of the delivery cell of the same turn.
-#[derive(Drop)]
+#[derive(Clone, Copy)]
 pub struct Delivery {
     pub reliably: bool,
     pub total: Total,
@@ -20,7 +22,7 @@ pub struct Delivery {
 }
 
 // The first `count` of `each` are what was delivered, in order.
-#[derive(Drop)]
+#[derive(Clone, Copy)]
 pub struct Deliveries {
     pub each: [Delivery; 5],
     pub count: usize,

@@ -1,5 +1,7 @@
 // The calls over the table: each calls the library with the values of its line, says what that gave, and looks whether any lent octet was
 // changed that the answer does not name.
+#![tactic(auto)]
+
 mod elapsed_call;
 mod leave_call;
 mod message_call;

@@ -1,4 +1,6 @@
 // The steps that need no table: reading a block, and reading and writing a message.
+#![tactic(auto)]
+
 use block::{BlockRead, Found};
 use case_forms::kinds::{FEWER, FOUND, GIVEN, JOIN, MALFORMED, NULL, READ, RELIABLE, WRITE, WROTE};
 use case_forms::saying::{end_line, put_kind, put_numbers, say_numbers, say_octets, say_plain};

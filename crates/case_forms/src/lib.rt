@@ -1,4 +1,6 @@
 // The lines of a case file by their forms: how each is written, reading one into values and octets, and writing values and octets as one.
+#![tactic(auto)]
+
 pub mod kinds;
 pub mod lines;
 pub mod reading;

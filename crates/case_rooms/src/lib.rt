@@ -1,5 +1,7 @@
 // What a call may write, and what it gave in lines: the rooms that it is lent, whether it changed an octet that its answer does not name,
 // the records that it changed, and whether that is what it must give.
+#![tactic(auto)]
+
 pub mod judging;
 pub mod lent;
 pub mod setting;

@@ -1,5 +1,7 @@
 // The table as numbers: a row for each record, its values in the order of its line. So a line sets a row, two rows are compared number by
 // number, and a row is written by its form; only the calls themselves see records.
+#![tactic(auto)]
+
 pub mod messages;
 
 use case_text::plus;

@@ -2,6 +2,8 @@
 // a place past the end reads as 0, and what has no room is left out. So no caller owes anything, and each is proved safe with no contract.
 
 // A word of a line: its octets are those from `from` up to `to`. Past the last word both are the line's end.
+#![tactic(auto)]
+
 #[derive(Drop)]
 pub struct Word {
     pub from: usize,

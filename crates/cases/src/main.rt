@@ -1,5 +1,7 @@
 // Runs recorded cases over the library: `cases FILE` judges each case of a file, `cases show FILE` writes the file with what each step gives
 // now. With no file it is standard input. A file is read as it comes and never held whole.
+#![tactic(auto)]
+
 mod lines;
 mod steps;
 

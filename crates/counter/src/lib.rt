@@ -1,15 +1,17 @@
 // The two counters of a channel and the signed distance between two numbers of one counter. A total number and a reliable number are
 // two types, so no comparison or sum takes one for the other.
+#![tactic(auto)]
+
 ghost use Rattle.std.specs.Prelude.{◌≡◌, ◌==◌};
 ghost use Rattle.counter.specs.Distance.{ahead, distance};
 ghost use Rattle.counter.specs.Steps.{next, previous, before};
 
 // A total number: it counts every wrapper of a channel.
-#[derive(Drop)]
+#[derive(Clone, Copy)]
 pub struct Total(pub u32);
 
 // A reliable number: it counts the reliable wrappers of a channel.
-#[derive(Drop)]
+#[derive(Clone, Copy)]
 pub struct Reliable(pub u32);
 
 // How far to count up from `old` to `new`, turning past zero.

@@ -1,4 +1,6 @@
 // The gap of one channel: the standoff's time, the range of a NAK, and what elapsed time does to a record.
+#![tactic(auto)]
+
 ghost use Rattle.std.specs.Prelude.{◌≡◌, true, ◌+◌, ◌-◌, ◌<◌, ◌≤◌};
 ghost use Rattle.record.specs.Profile.{max_retries};
 ghost use Rattle.record.specs.With.{with_idle};
@@ -11,14 +13,14 @@ use counter::{Reliable, next_reliable, previous_reliable, reliable_distance};
 use record::{Gap, Place, Record, free_record, max_retries, nak_timeout, with_gap};
 
 // The nearest held reliable number, if one is held.
-#[derive(Drop)]
+#[derive(Clone, Copy)]
 pub enum Nearest {
     Held(Reliable),
     Nothing,
 }
 
 // What elapsed time makes a channel send: nothing, a NAK with R, its range and whether it goes outbound too, or Leaving with its reason and R.
-#[derive(Drop)]
+#[derive(Clone, Copy)]
 pub enum Event {
     Nothing,
     Nak {
@@ -31,7 +33,7 @@ pub enum Event {
 }
 
 // A record after elapsed time, and what is sent.
-#[derive(Drop)]
+#[derive(Clone, Copy)]
 pub struct Elapsed {
     pub after: Record,
     pub event: Event,

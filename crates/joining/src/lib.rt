@@ -1,4 +1,6 @@
 // Joining and leaving of one channel: what a Join is answered, the record that it makes, and the messages that a member sends.
+#![tactic(auto)]
+
 ghost use Rattle.std.specs.Prelude.{◌≡◌, map};
 ghost use Rattle.record.specs.With.{free_place};
 ghost use Rattle.joining.specs.Joining.{legal_block, legal_address, legal, decide_new, decide_for, decided, new_record};
@@ -9,7 +11,7 @@ use message::{Address, Cid, Join, Membership, Message, Parameters};
 use record::{Gap, Place, Record, Terms, free_place, legal_names, legal_parameters};
 
 // What the table has for a Join's owner and channel: the MID, R and reciprocal number of its record, or none.
-#[derive(Drop)]
+#[derive(Clone, Copy)]
 pub enum Existing {
     Known {
         mid: u16,
@@ -20,7 +22,7 @@ pub enum Existing {
 }
 
 // What a Join is answered: Join Refuse with a reason, Join Accept again with the record's numbers, or a new record with these parameters.
-#[derive(Drop)]
+#[derive(Clone, Copy)]
 pub enum Decision {
     Refuse(u8),
     Again { reliable: Reliable, reciprocal: u16 },

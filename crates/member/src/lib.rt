@@ -1,4 +1,6 @@
 // The member's three calls over eight records by value: refusals in 01's order, the step of one record, and its octets moved.
+#![tactic(auto)]
+
 mod elapsing;
 mod leaving;
 mod messages;
@@ -30,7 +32,7 @@ const LONGEST: u32 = 1000;
 
 // What a message call gives: a refusal; a Join's decision, and which record its channel now has; or which record a wrapper moved, what became of it,
 // how many held ones were thrown out and what is replied.
-#[derive(Drop)]
+#[derive(Clone, Copy)]
 pub enum Given {
     Refused(u8),
     Joined {
@@ -46,7 +48,7 @@ pub enum Given {
 }
 
 // The answer of a message call. The first `count` of `deliveries` are what was delivered, in order; `reply` octets stand in the reply room.
-#[derive(Drop)]
+#[derive(Clone, Copy)]
 pub struct Messaged {
     pub table: [Record; 8],
     pub given: Given,
@@ -56,14 +58,14 @@ pub struct Messaged {
 }
 
 // What a record sends as time passes: `len` octets stand in its cell.
-#[derive(Drop)]
+#[derive(Clone, Copy)]
 pub struct Cell {
     pub event: Event,
     pub len: usize,
 }
 
 // The answer of an elapsed call: the number of a refusal, or 0.
-#[derive(Drop)]
+#[derive(Clone, Copy)]
 pub struct Passed {
     pub table: [Record; 8],
     pub number: u8,
@@ -71,7 +73,7 @@ pub struct Passed {
 }
 
 // The answer of a leave call: the number of a refusal or 0, which record was left (0 after a refusal), and how many octets stand in the reply room.
-#[derive(Drop)]
+#[derive(Clone, Copy)]
 pub struct Left {
     pub table: [Record; 8],
     pub number: u8,

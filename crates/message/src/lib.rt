@@ -1,4 +1,6 @@
 // The nine messages that the controller reads: their fields, the one table of their data lengths, and reading them.
+#![tactic(auto)]
+
 ghost use Rattle.std.specs.Prelude.{◌≡◌, true, ◌+◌, ◌≤◌, length};
 ghost use Rattle.message.specs.Lengths.{join_refuse, length_in, length_of};
 ghost use Rattle.message.specs.Layouts.{cid_at, membership_of, wrapper_of, parameters_at, address_of, join_of};
@@ -10,14 +12,14 @@ use octets::{u16_at, u32_at, u64_at};
 
 // A component's identifier: its 16 octets as two numbers, so that it compares in two tests.
 #[repr(C)]
-#[derive(Drop)]
+#[derive(Clone, Copy)]
 pub struct Cid {
     pub high: u64,
     pub low: u64,
 }
 
 // Which member of which channel speaks: what Join Accept, Join Refuse, Leaving and NAK begin with.
-#[derive(Drop)]
+#[derive(Clone, Copy)]
 pub struct Membership {
     pub leader: Cid,
     pub channel: u16,
@@ -27,7 +29,7 @@ pub struct Membership {
 
 // What follows the address of a Join: the channel's parameters and the ad-hoc expiry. `flags` has N as its top bit, and reserved bits.
 #[repr(C)]
-#[derive(Drop)]
+#[derive(Clone, Copy)]
 pub struct Parameters {
     pub expiry: u8,
     pub flags: u8,
@@ -38,21 +40,21 @@ pub struct Parameters {
 }
 
 // An IPv4 address with its UDP port.
-#[derive(Drop)]
+#[derive(Clone, Copy)]
 pub struct Endpoint {
     pub port: u16,
     pub host: u32,
 }
 
 // A Join's destination address with what follows it. Of a Join with another address type only the type is known.
-#[derive(Drop)]
+#[derive(Clone, Copy)]
 pub enum Address {
     Null(Parameters),
     Ipv4(Endpoint, Parameters),
     Other(u8),
 }
 
-#[derive(Drop)]
+#[derive(Clone, Copy)]
 pub struct Join {
     pub cid: Cid,
     pub mid: u16,
@@ -64,7 +66,7 @@ pub struct Join {
 }
 
 // A wrapper's own fields; its contents are the rest of its data.
-#[derive(Drop)]
+#[derive(Clone, Copy)]
 pub struct Wrapper {
     pub channel: u16,
     pub total: Total,
@@ -75,7 +77,7 @@ pub struct Wrapper {
     pub threshold: u16,
 }
 
-#[derive(Drop)]
+#[derive(Clone, Copy)]
 pub enum Message {
     ReliableWrapper(Wrapper),
     UnreliableWrapper(Wrapper),
@@ -102,7 +104,7 @@ pub enum Message {
 }
 
 // What reading a message answers. `Unreadable` is refusal 4.
-#[derive(Drop)]
+#[derive(Clone, Copy)]
 pub enum MessageRead {
     Read(Message),
     Unreadable,
@@ -136,7 +138,7 @@ pub const ADDRESS_IPV4: u8 = 1;
 pub const MOST_CONTENTS: usize = 1454;
 
 // A row of the table: a message's vector, the type of its address (null if it has none), and the exact length of its data.
-#[derive(Drop)]
+#[derive(Clone, Copy)]
 pub struct Row {
     pub vector: u8,
     pub address: u8,

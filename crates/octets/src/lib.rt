@@ -1,4 +1,6 @@
 // Lent octets: big-endian numbers of 1, 2, 4 and 8 octets read and written in them, and copies between them.
+#![tactic(auto)]
+
 ghost use Rattle.std.specs.Prelude.{◌≡◌, ◌+◌, ◌≤◌, ◌<◌, length, get_or};
 ghost use Rattle.octets.specs.Octets.{octets, part, number_at, splice};
 
@@ -10,6 +12,7 @@ pub fn u8_at(s: &[u8], at: usize) -> usize
     s[at] as usize
 }
 
+#[tactic(auto, using(crate::proofs::Numbers::number_two))]
 pub fn u16_at(s: &[u8], at: usize) -> u16
     requires { at + 2 ≤ length s.now }
     ensures { result ≡ number_at s.now at 2 }
@@ -37,6 +40,7 @@ pub fn u64_at(s: &[u8], at: usize) -> u64
     high * 4294967296 + low
 }
 
+#[tactic(auto, using(crate::proofs::Writes::splice_one))]
 pub fn put_u8(s: &mut [u8], at: usize, x: u8)
     requires { at + 1 ≤ length s.old }
     ensures { s.new ≡ splice s.old at (octets 1 x) }
@@ -44,6 +48,7 @@ pub fn put_u8(s: &mut [u8], at: usize, x: u8)
     s[at] = x;
 }
 
+#[tactic(auto, using(crate::proofs::Writes::splice_two))]
 pub fn put_u16(s: &mut [u8], at: usize, x: u16)
     requires { at + 2 ≤ length s.old }
     ensures { s.new ≡ splice s.old at (octets 2 x) }
@@ -52,6 +57,7 @@ pub fn put_u16(s: &mut [u8], at: usize, x: u16)
     s[at + 1] = (x % 256) as u8;
 }
 
+#[tactic(auto, using(crate::proofs::Writes::splice_halves))]
 pub fn put_u32(s: &mut [u8], at: usize, x: u32)
     requires { at + 4 ≤ length s.old }
     ensures { s.new ≡ splice s.old at (octets 4 x) }
@@ -60,6 +66,7 @@ pub fn put_u32(s: &mut [u8], at: usize, x: u32)
     put_u16(s, at + 2, (x % 65536) as u16);
 }
 
+#[tactic(auto, using(crate::proofs::Writes::splice_halves))]
 pub fn put_u64(s: &mut [u8], at: usize, x: u64)
     requires { at + 8 ≤ length s.old }
     ensures { s.new ≡ splice s.old at (octets 8 x) }

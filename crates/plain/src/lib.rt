@@ -1,4 +1,6 @@
 // A message as a struct of numbers, as C passes and receives it, and back.
+#![tactic(auto)]
+
 ghost use Rattle.std.specs.Prelude.{◌≡◌};
 ghost use Rattle.message.specs.Lengths.{ack, get_sessions};
 ghost use Rattle.plain.specs.Messages.{no_missed, no_order, nobody, no_message, subject, member_subject, wrapper_plain, plain_with, address_of, member_of, wrapper_of, join_of, typed_of, join_with};
@@ -8,7 +10,7 @@ use message::{Address, Cid, Endpoint, Join, Membership, Message, Parameters, Wra
 
 // Whom a message concerns: a component, a channel, a member, and the reliable number that it names.
 #[repr(C)]
-#[derive(Drop)]
+#[derive(Clone, Copy)]
 pub struct Subject {
     pub cid: Cid,
     pub reliable: u32,
@@ -18,7 +20,7 @@ pub struct Subject {
 
 // A wrapper's total number (a Join's too), oldest available, members to acknowledge, and threshold.
 #[repr(C)]
-#[derive(Drop)]
+#[derive(Clone, Copy)]
 pub struct Order {
     pub total: u32,
     pub oldest: u32,
@@ -29,7 +31,7 @@ pub struct Order {
 
 // The range of a NAK.
 #[repr(C)]
-#[derive(Drop)]
+#[derive(Clone, Copy)]
 pub struct Missed {
     pub first: u32,
     pub last: u32,
@@ -37,7 +39,7 @@ pub struct Missed {
 
 // A Join's destination: the address type, and port and host where it is IPv4.
 #[repr(C)]
-#[derive(Drop)]
+#[derive(Clone, Copy)]
 pub struct Destination {
     pub host: u32,
     pub port: u16,
@@ -46,7 +48,7 @@ pub struct Destination {
 
 // Any of the nine messages: `vector` says which. What a message does not have is 0.
 #[repr(C)]
-#[derive(Drop)]
+#[derive(Clone, Copy)]
 pub struct Plain {
     pub vector: u8,
     pub reason: u8,
@@ -59,7 +61,7 @@ pub struct Plain {
 }
 
 // The message that a struct of numbers is, or none if its vector is not one of the nine.
-#[derive(Drop)]
+#[derive(Clone, Copy)]
 pub enum Typed {
     Is(Message),
     Unknown,

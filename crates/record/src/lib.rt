@@ -1,4 +1,6 @@
 // One channel's record: what it holds, the profile's numbers, and whether it is well formed.
+#![tactic(auto)]
+
 ghost use Rattle.std.specs.Prelude.{◌≡◌};
 ghost use Rattle.record.specs.Profile.{nak_timeout, max_retries};
 ghost use Rattle.record.specs.Legal.{legal_names, legal_parameters};
@@ -10,7 +12,7 @@ use counter::{Reliable, Total, reliable_distance, same_reliable};
 use message::{Cid, MOST_CONTENTS};
 
 // The phase of a gap, with its time left in milliseconds and the number of NAKs sent.
-#[derive(Drop)]
+#[derive(Clone, Copy)]
 pub enum Gap {
     Quiet,
     Standoff { left: u32, count: u8 },
@@ -18,7 +20,7 @@ pub enum Gap {
 }
 
 // A place for a held wrapper: its numbers and the length of its contents. A free place keeps what it held.
-#[derive(Drop)]
+#[derive(Clone, Copy)]
 pub struct Place {
     pub used: bool,
     pub total: Total,
@@ -27,7 +29,7 @@ pub struct Place {
 }
 
 // What the Join fixed for the channel's life.
-#[derive(Drop)]
+#[derive(Clone, Copy)]
 pub struct Terms {
     pub owner: Cid,
     pub channel: u16,
@@ -41,7 +43,7 @@ pub struct Terms {
 }
 
 // A channel: `total` is 01's T, `reliable` R, `known` K and `acked` A. A free record keeps what its last step left.
-#[derive(Drop)]
+#[derive(Clone, Copy)]
 pub struct Record {
     pub used: bool,
     pub terms: Terms,

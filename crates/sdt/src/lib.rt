@@ -1,5 +1,7 @@
 // The library as a C receiver sees it: reading blocks and messages, and writing messages, on numbers and octets alone. include/sdt.h says
 // the same in C. An answer is a struct of numbers that begins with its outcome: 0, a refusal's number, or one of the two further words below.
+#![tactic(auto)]
+
 ghost use Rattle.std.specs.Prelude.{◌≡◌};
 ghost use Rattle.sdt.specs.Messages.{write_answer};
 ghost use Rattle.sdt.specs.Allowed.{SdtReadBlockAllows, SdtOpenBlockAllows, SdtNextMessageAllows, SdtReadMessageAllows, SdtWriteMessageAllows};
@@ -26,7 +28,7 @@ const NO_FOUND: Found = Found {
 
 // What reading one message of a block answers; `bad` is the place of the first malformed PDU.
 #[repr(C)]
-#[derive(Drop)]
+#[derive(Clone, Copy)]
 pub struct BlockAnswer {
     pub outcome: u32,
     pub found: Found,
@@ -34,7 +36,7 @@ pub struct BlockAnswer {
 }
 
 #[repr(C)]
-#[derive(Drop)]
+#[derive(Clone, Copy)]
 pub struct OpenAnswer {
     pub outcome: u32,
     pub count: usize,
@@ -44,7 +46,7 @@ pub struct OpenAnswer {
 
 // What reading on answers; the cursor stays as it was where there is no message.
 #[repr(C)]
-#[derive(Drop)]
+#[derive(Clone, Copy)]
 pub struct NextAnswer {
     pub outcome: u32,
     pub found: Found,
@@ -52,14 +54,14 @@ pub struct NextAnswer {
 }
 
 #[repr(C)]
-#[derive(Drop)]
+#[derive(Clone, Copy)]
 pub struct MessageAnswer {
     pub outcome: u32,
     pub message: Plain,
 }
 
 #[repr(C)]
-#[derive(Drop)]
+#[derive(Clone, Copy)]
 pub struct WriteAnswer {
     pub outcome: u32,
     pub length: usize,

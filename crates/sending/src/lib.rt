@@ -1,4 +1,6 @@
 // What a member sends, written into lent rooms: the replies of a wrapper's step and of a Join, and what a channel sends as time passes or as it is left.
+#![tactic(auto)]
+
 ghost use Rattle.std.specs.Prelude.{◌≡◌, true, ◌≤◌, length};
 ghost use Rattle.writing.specs.Writing.{has_form};
 ghost use Rattle.joining.specs.Replies.{departure};

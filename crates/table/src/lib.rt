@@ -1,4 +1,6 @@
 // Eight records by value: which one has an owner and channel, which one is free, and whether the whole table is well formed.
+#![tactic(auto)]
+
 ghost use Rattle.std.specs.Prelude.{◌≡◌, ℕ, ◌<◌, ◌≤◌, set, drop};
 ghost use Rattle.table.specs.Table.{same, named, found, lowest_free, differs, table_formed, free_table};
 
@@ -7,7 +9,7 @@ use message::Cid;
 use record::{Gap, Place, Record, Terms};
 
 // What a search of the table answers.
-#[derive(Drop)]
+#[derive(Clone, Copy)]
 pub enum Found {
     At(usize),
     Nowhere,

@@ -1,4 +1,6 @@
 // The step of one record by a wrapper, in numbers alone: it answers a plan, which whoever has the octets carries out. Its six steps lie in the modules.
+#![tactic(auto)]
+
 mod hold;
 mod judge;
 mod release;
@@ -11,7 +13,7 @@ use counter::{Reliable, Total};
 use record::Record;
 
 // A wrapper that has arrived: `reliably` if it is a reliable one, its numbers, and the length of its contents.
-#[derive(Drop)]
+#[derive(Clone, Copy)]
 pub struct Arrived {
     pub reliably: bool,
     pub total: Total,
@@ -24,7 +26,7 @@ pub struct Arrived {
 }
 
 // Step 1: refused as old (8) or inconsistent (9), or fresh.
-#[derive(Drop)]
+#[derive(Clone, Copy)]
 pub enum Judged {
     Old,
     Inconsistent,
@@ -32,14 +34,14 @@ pub enum Judged {
 }
 
 // What a search for a place answers.
-#[derive(Drop)]
+#[derive(Clone, Copy)]
 pub enum Search {
     At(usize),
     Nowhere,
 }
 
 // What becomes of the wrapper itself.
-#[derive(Drop)]
+#[derive(Clone, Copy)]
 pub enum Fate {
     Delivered,
     Held(usize),
@@ -47,14 +49,14 @@ pub enum Fate {
 }
 
 // A record after step 3.
-#[derive(Drop)]
+#[derive(Clone, Copy)]
 pub struct Placed {
     pub after: Record,
     pub fate: Fate,
 }
 
 // A record after step 4: the first `count` of `order` are the places delivered, in order, and `thrown` were thrown out.
-#[derive(Drop)]
+#[derive(Clone, Copy)]
 pub struct Released {
     pub after: Record,
     pub order: [usize; 4],
@@ -63,7 +65,7 @@ pub struct Released {
 }
 
 // What is sent.
-#[derive(Drop)]
+#[derive(Clone, Copy)]
 pub enum Reply {
     Nothing,
     Ack(Reliable),
@@ -71,21 +73,21 @@ pub enum Reply {
 }
 
 // A record after step 5, and whether what is missing is lost, so that the channel is left.
-#[derive(Drop)]
+#[derive(Clone, Copy)]
 pub struct Gapped {
     pub after: Record,
     pub lost: bool,
 }
 
 // A record after step 6.
-#[derive(Drop)]
+#[derive(Clone, Copy)]
 pub struct Settled {
     pub after: Record,
     pub reply: Reply,
 }
 
 // All that steps 2 to 6 decide.
-#[derive(Drop)]
+#[derive(Clone, Copy)]
 pub struct Plan {
     pub after: Record,
     pub fate: Fate,
@@ -96,7 +98,7 @@ pub struct Plan {
 }
 
 // The whole step: the number of a refusal, or 0, and the plan.
-#[derive(Drop)]
+#[derive(Clone, Copy)]
 pub struct Stepped {
     pub number: u8,
     pub plan: Plan,

@@ -1,4 +1,6 @@
 // Writing the nine messages: each as one PDU, with V, H and D set and the short length, at the front of a lent room.
+#![tactic(auto)]
+
 ghost use Rattle.std.specs.Prelude.{◌≡◌, ◌+◌, ◌<◌, ◌≤◌, length, [], ◌∷◌};
 ghost use Rattle.octets.specs.Octets.{octets, splice, joined};
 ghost use Rattle.block.specs.Written.{head};
@@ -12,14 +14,14 @@ use message::{
 use octets::{copy_into, put_u8, put_u16, put_u32, put_u64};
 
 // Where the table of data lengths has a message: its vector and the type of its address.
-#[derive(Drop)]
+#[derive(Clone, Copy)]
 pub struct Form {
     pub vector: u8,
     pub address: u8,
 }
 
 // What writing answers: how many octets were written, or a refusal: `NoForm` is 4, `NoRoom` is 1 and `ContentsOver` is 7.
-#[derive(Drop)]
+#[derive(Clone, Copy)]
 pub enum Wrote {
     Octets(usize),
     NoForm,
