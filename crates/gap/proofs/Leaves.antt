@@ -123,7 +123,7 @@ module _ (r s : Record) (left count : ℕ) where
   unfolding in_wait
   wait_goes_on z g = rw (g, ne_eqb left 0 z)
 
-pub ruleset two-phases = (standoff_ends, standoff_goes_on, wait_lost, wait_ends, wait_goes_on)
+pub ruleset two_phases = (standoff_ends, standoff_goes_on, wait_lost, wait_ends, wait_goes_on)
 
 module _ (r : Record) (u : r.used ≡ true) (w : well_formed r ≡ true) where
   pub may_count : (left count : ℕ) → r.gap ≡ gap.Standoff left count → count < max_retries

@@ -26,7 +26,7 @@ module _ (r : Row) (v a : ℕ) where
   pub this_row : v ≡ r.vector → a ≡ r.address → r.len ≡ length_in r v a
   this_row e f = rw (eq-eqb v r.vector e, eq-eqb a r.address f)
 
-pub ruleset one-row = (other_vector, other_address, this_row)
+pub ruleset one_row = (other_vector, other_address, this_row)
 
 -- ---- the rows in turn
 

@@ -197,8 +197,8 @@ unfolding well_formed terms_right closed
 formed r w u =
     let to-idle = both _ _ (asked r.used _ w u) in
     let to_gap = both _ _ to-idle.0 in
-    let to-apart = both _ _ to_gap.0 in
-    let to_held = both _ _ to-apart.0 in
+    let to_apart = both _ _ to_gap.0 in
+    let to_held = both _ _ to_apart.0 in
     let to-known = both _ _ to_held.0 in
     let to-terms = both _ _ to-known.0 in
     let to-legal = both _ _ to-terms.0 in
@@ -209,7 +209,7 @@ formed r w u =
       reciprocal = not_zero _ to-terms.1;
       known = known;
       held = held_all r.reliable r.known known r.places to_held.1;
-      apart = apart_all r.places to-apart.1;
+      apart = apart_all r.places to_apart.1;
       gap = phase_is _ _ _ r.gap to_gap.1;
       idle = ltb-true _ _ to-idle.1;
     }

@@ -276,6 +276,6 @@ module _ (r : Record) where
             record_idle o = rw (to_gap, not-false d o)
 
 -- two sets, since with all seven leaves `search` meets its bound
-pub ruleset to-apart = (free_record_lem, record_terms, record_known, record_held, record_apart, sfits_of)
+pub ruleset to_apart = (free_record_lem, record_terms, record_known, record_held, record_apart, sfits_of)
 
-pub ruleset from-gap = (record_gap, record_idle, sfits_of)
+pub ruleset from_gap = (record_gap, record_idle, sfits_of)

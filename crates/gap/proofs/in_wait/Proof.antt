@@ -1,5 +1,5 @@
 -- `in_wait` meets its contract: with no time left it leaves at the profile's count and at no other. Assumes nothing.
-use Rattle.gap.proofs.Leaves.{two-phases}
+use Rattle.gap.proofs.Leaves.{two_phases}
 use borrow.Author.Rules.{rules}
 use Rattle.gap.proofs.in_wait.Statement.{statement}
 use Rattle.gap.proofs.in_wait.Tie as tie
@@ -14,7 +14,7 @@ free-record-requires : tie.Need-free-record-requires
 free-record-requires c κs = search rules
 
 returns : tie.Need-returns
-returns c = search two-phases
+returns c = search two_phases
 
 standoff-of-requires : tie.Need-standoff-of-requires
 standoff-of-requires c κs = search rules
@@ -23,13 +23,13 @@ with-gap-requires-2 : tie.Need-with-gap-requires-2
 with-gap-requires-2 c κs = search rules
 
 returns-2 : tie.Need-returns-2
-returns-2 c = search two-phases
+returns-2 c = search two_phases
 
 with-gap-requires-3 : tie.Need-with-gap-requires-3
 with-gap-requires-3 c κs = search rules
 
 returns-3 : tie.Need-returns-3
-returns-3 c = search two-phases
+returns-3 c = search two_phases
 
 pub in-wait-spec : {M : Type 1} → statement M
 in-wait-spec =
