@@ -1,17 +1,16 @@
 // Text as octets: the words of a line, the numbers and octets that they say, and both written into a lent array. Every function takes any input:
 // a place past the end reads as 0, and what has no room is left out. So no caller owes anything, and each is proved safe with no contract.
-
-// A word of a line: its octets are those from `from` up to `to`. Past the last word both are the line's end.
 #![tactic(auto)]
 
-#[derive(Drop)]
+// A word of a line: its octets are those from `from` up to `to`. Past the last word both are the line's end.
+#[derive(Clone, Copy)]
 pub struct Word {
     pub from: usize,
     pub to: usize,
 }
 
 // What a word says: a number, or nothing that can be read.
-#[derive(Drop)]
+#[derive(Clone, Copy)]
 pub enum Number {
     Value(usize),
     Wrong,
