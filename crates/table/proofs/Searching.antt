@@ -70,7 +70,9 @@ module _ (o : Cid) (c : ℕ) (xs ts : List Record) (j : ℕ) (l : length ts ≡ 
 
     pub differs_on : b ≡ false → Left o c xs ts (j + 1)
     unfolding differs
-    differs_on t r w = rw (so_far r w, drop-cons ts j d (omega arith), w.0, w.1, w.2, ← e, t, add-one j)
+    differs_on t r w =
+        let not_here : (r.used && named r.terms.owner r.terms.channel (get_or ts j d)) ≡ false = rw (w.0, w.1, w.2, ← e, t) in
+        rw (so_far r w, drop-cons ts j d (omega arith), not_here, add-one j)
 
   pub differs_none : 8 ≤ j → (r : Record) → Owns r o c → true ≡ differs r xs
   unfolding differs

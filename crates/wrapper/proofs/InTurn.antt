@@ -2,7 +2,7 @@
 -- total number lies ahead of T as it is then, and T and R afterwards are the numbers of the last one. Assumes nothing.
 use Prim.Native.Nat.{ℕ, zero, suc, ◌+◌, ◌<◌}
 use mathlib.Core.Bool.{Bool, true, false, cond, not, ◌&&◌, and-eq-true_iff, false≢true}
-use mathlib.Core.List.{List, [], ◌∷◌, ◌++◌, map, map_append, append_assoc, append-nil}
+use mathlib.Core.List.{List, [], ◌∷◌, ◌++◌, map, map-append, append_assoc, append-nil}
 use mathlib.Core.Path.{◌≡◌, refl, sym, ap, ◌∙◌}
 use native.Mathlib.Numerals.{add-one}
 use native.Mathlib.Omega.{arith}
@@ -125,7 +125,7 @@ module _ (r : Record) (four : length r.places ≡ 4) (t : Total) (n : Reliable) 
           let room : s.count < length s.order = omega (arith, count_below r four s i e since, since.room) in
           let passed = passes_fresh (judged s.after true (held_at s i).total (held_at s i).reliable) p in
           rw
-          (add-one s.count, take-suc-set s.order s.count i room, map_append (held_in r.places) (take s.count s.order) (i ∷ []))
+          (add-one s.count, take-suc-set s.order s.count i room, map-append (held_in r.places) (take s.count s.order) (i ∷ []))
           (rw (← append_assoc, ← untouched r four s i e since)
           (one_more_in_turn t n (so_far s) s.after.total s.after.reliable
           (record { reliably = true; total = (held_at s i).total; reliable = (held_at s i).reliable })
