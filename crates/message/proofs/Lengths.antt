@@ -6,13 +6,13 @@ use native.Mathlib.Omega.{arith}
 use mathlib.Core.Path.{◌≡◌, refl, sym, ap, ◌∙◌}
 use mathlib.Core.Logic.{◌≢◌}
 use mathlib.Core.Bool.{Bool, true, false, cond, ◌&&◌, and-eq-true_iff, and-false}
-use mathlib.Core.List.{List, [], ◌∷◌}
-use lib.ListN.{length, get_or, drop}
-use lib.Seq.{drop-cons, drop-length}
+use mathlib.Core.List.{List}
+use lib.ListN.{get_or, drop}
+use lib.Seq.{drop-cons}
 use lib.Dec.{eqb, leb, ltb}
 use borrow.Author.Tests.{leb-true, ltb-true, eq-eqb, ne_eqb}
 use Rattle.message.specs.Lengths.{join, join_accept, join_refuse, leaving, nak, get_sessions, ack, reliable_wrapper, unreliable_wrapper, null, Row, rows, length_in, look, length_of}
-use Rattle.message.proofs.Table.{below, at}
+use Rattle.message.proofs.Table.{at}
 
 -- ---- one row
 

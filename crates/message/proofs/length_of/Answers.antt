@@ -1,7 +1,6 @@
 -- `message::length_of` meets its contract. The loop's invariant: what is left of the rows decides. The measure is how many are left. Assumes nothing.
-use Prim.Native.Nat.{◌-◌, ◌≤◌}
 use native.Mathlib.Omega.{arith}
-use Rattle.message.proofs.Lengths.{Left, searched, row_found, all_passed}
+use Rattle.message.proofs.Lengths.{searched, row_found, all_passed}
 use borrow.Author.Rules.{rules}
 use Rattle.message.proofs.length_of.Goals as goal
 
