@@ -1,6 +1,6 @@
 -- What one step delivers is in turn: each reliable wrapper is at distance 1 from R as it is then and an unreliable one at distance 0, each
 -- total number lies ahead of T as it is then, and T and R afterwards are the numbers of the last one. Assumes nothing.
-use Prim.Native.Nat.{ℕ, zero, suc, ◌+◌, ◌<◌}
+use Prim.Native.Nat.{ℕ, zero, suc, ◌<◌}
 use mathlib.Core.Bool.{Bool, true, false, cond, not, ◌&&◌, and-eq-true_iff, false≢true}
 use mathlib.Core.List.{List, [], ◌∷◌, ◌++◌, map, map-append, append_assoc, append-nil}
 use mathlib.Core.Path.{◌≡◌, refl, sym, ap, ◌∙◌}

@@ -1,0 +1,9 @@
+-- `release_at` meets its contract: the judgement decides between the two leaves of a release. Assumes nothing.
+use Rattle.wrapper.proofs.Releasing.{releases}
+use Rattle.wrapper.proofs.release.release_at.Goals as goal
+
+pub returns-in-Fresh : goal.returns-in-Fresh
+returns-in-Fresh c = search releases
+
+pub returns : goal.returns
+returns c = search releases
