@@ -1,7 +1,18 @@
 // What is kept from line to line, and what is written: the report of each case, or with `show` the file itself. Output waits in a lent array and is
 // written in large pieces. With `show`, what is wrong goes to standard error, so that standard output stays a case file.
 use case_text::{Word, less, next, octets_of, part, plus, put, put_decimal, word_at};
-use libc::{STDERR_FILENO, STDOUT_FILENO};
+use std::io;
+
+// Where reports go: standard output, which `Print` writes, and standard error, which takes octets here and not only text.
+pub trait Reports: Print {
+    fn complain(&self, s: &[u8]) -> io::Result<()>;
+}
+
+impl Reports for HostRuntime {
+    fn complain(&self, s: &[u8]) -> io::Result<()> {
+        Print::write_all(&self.stderr(), s)
+    }
+}
 
 // What waits to be written.
 pub const OUT: usize = 65536;
@@ -13,7 +24,7 @@ pub const LINE: usize = 200000;
 const SHOWN: usize = 64;
 
 // How much of each piece is lent to the next call.
-#[derive(Drop)]
+#[derive(Clone, Copy)]
 pub struct Lent {
     pub table: usize,
     pub held: usize,
@@ -47,7 +58,7 @@ pub fn lend(lent: Lent, piece: u64, n: usize) -> Lent {
 }
 
 // What is kept from line to line.
-#[derive(Drop)]
+#[derive(Clone, Copy)]
 pub struct State {
     // Whether the file itself is written.
     pub show: bool,
@@ -97,8 +108,8 @@ pub fn more(n: u64) -> u64 {
 
 // ---- output
 
-pub fn flush(out: &[u8; OUT], n: usize) {
-    io::write_all(STDOUT_FILENO, part(out, 0, n));
+pub fn flush(rt: &impl Reports, out: &[u8; OUT], n: usize) -> io::Result<()> {
+    Print::write_all(rt, part(out, 0, n))
 }
 
 fn fits(n: usize, len: usize) -> bool {
@@ -106,72 +117,104 @@ fn fits(n: usize, len: usize) -> bool {
 }
 
 // Lets s wait behind n octets that wait. If it has no room they are written first, and so is s if it is too long to wait.
-fn wait(out: &mut [u8; OUT], n: usize, s: &[u8]) -> usize {
+fn wait(rt: &impl Reports, out: &mut [u8; OUT], n: usize, s: &[u8]) -> io::Result<usize> {
     if fits(n, s.len()) {
-        return put(out, n, s);
+        return Ok(put(out, n, s));
     }
-    flush(out, n);
+    flush(rt, out, n)?;
     if fits(0, s.len()) {
-        return put(out, 0, s);
+        return Ok(put(out, 0, s));
     }
-    io::write_all(STDOUT_FILENO, s);
-    0
+    Print::write_all(rt, s)?;
+    Ok(0)
 }
 
-fn emit(out: &mut [u8; OUT], state: State, s: &[u8]) -> State {
+fn emit(rt: &impl Reports, out: &mut [u8; OUT], state: State, s: &[u8]) -> io::Result<State> {
     let mut st = state;
-    let n = wait(out, st.out, s);
+    let n = wait(rt, out, st.out, s)?;
     st.out = n;
-    st
+    Ok(st)
 }
 
 // A part of the file as it stands there.
-pub fn pass_on(s: &[u8], out: &mut [u8; OUT], state: State) -> State {
+pub fn pass_on(
+    rt: &impl Reports,
+    s: &[u8],
+    out: &mut [u8; OUT],
+    state: State,
+) -> io::Result<State> {
     if !state.show {
-        return state;
+        return Ok(state);
     }
-    emit(out, state, s)
+    emit(rt, out, state, s)
 }
 
 // A line as it stands in the file.
-pub fn keep(line: &[u8], out: &mut [u8; OUT], state: State) -> State {
-    let st = pass_on(line, out, state);
-    pass_on(b"\n", out, st)
+pub fn keep(
+    rt: &impl Reports,
+    line: &[u8],
+    out: &mut [u8; OUT],
+    state: State,
+) -> io::Result<State> {
+    let st = pass_on(rt, line, out, state)?;
+    pass_on(rt, b"\n", out, st)
 }
 
 // ---- reports
 
 // A piece of a report.
-pub fn tell(out: &mut [u8; OUT], state: State, s: &[u8]) -> State {
+pub fn tell(rt: &impl Reports, out: &mut [u8; OUT], state: State, s: &[u8]) -> io::Result<State> {
     if state.show {
-        io::write_all(STDERR_FILENO, s);
-        return state;
+        rt.complain(s)?;
+        return Ok(state);
     }
-    emit(out, state, s)
+    emit(rt, out, state, s)
 }
 
-fn tell_digits(out: &mut [u8; OUT], state: State, digits: &[u8; 20], len: usize) -> State {
-    tell(out, state, part(digits, 0, len))
+fn tell_digits(
+    rt: &impl Reports,
+    out: &mut [u8; OUT],
+    state: State,
+    digits: &[u8; 20],
+    len: usize,
+) -> io::Result<State> {
+    tell(rt, out, state, part(digits, 0, len))
 }
 
-pub fn tell_number(out: &mut [u8; OUT], state: State, n: u64) -> State {
+pub fn tell_number(
+    rt: &impl Reports,
+    out: &mut [u8; OUT],
+    state: State,
+    n: u64,
+) -> io::Result<State> {
     let mut digits = [0u8; 20];
     let len = put_decimal(&mut digits, 0, n);
-    tell_digits(out, state, &digits, len)
+    tell_digits(rt, out, state, &digits, len)
 }
 
 // The name of the case.
-fn tell_name(name: &[u8; LINE], out: &mut [u8; OUT], state: State) -> State {
+fn tell_name(
+    rt: &impl Reports,
+    name: &[u8; LINE],
+    out: &mut [u8; OUT],
+    state: State,
+) -> io::Result<State> {
     if state.name == 0 {
-        return tell(out, state, b"(no name)");
+        return tell(rt, out, state, b"(no name)");
     }
-    tell(out, state, part(name, 0, state.name))
+    tell(rt, out, state, part(name, 0, state.name))
 }
 
-pub fn tell_line(out: &mut [u8; OUT], state: State, label: &[u8], s: &[u8]) -> State {
-    let a = tell(out, state, label);
-    let b = tell(out, a, s);
-    tell(out, b, b"\n")
+pub fn tell_line(
+    rt: &impl Reports,
+    out: &mut [u8; OUT],
+    state: State,
+    label: &[u8],
+    s: &[u8],
+) -> io::Result<State> {
+    let a = tell(rt, out, state, label)?;
+    let b = tell(rt, out, a, s)?;
+    tell(rt, out, b, b"\n")
 }
 
 // The case fails, and the rest of it is passed over.
@@ -186,85 +229,128 @@ fn with_failure(state: State) -> State {
 }
 
 // A report's head: how the case ended, and its name.
-fn tell_case(name: &[u8; LINE], out: &mut [u8; OUT], state: State, label: &[u8]) -> State {
-    let st = tell(out, state, label);
-    tell_name(name, out, st)
+fn tell_case(
+    rt: &impl Reports,
+    name: &[u8; LINE],
+    out: &mut [u8; OUT],
+    state: State,
+    label: &[u8],
+) -> io::Result<State> {
+    let st = tell(rt, out, state, label)?;
+    tell_name(rt, name, out, st)
 }
 
 // The case fails at this line: what follows says why.
-pub fn fail(name: &[u8; LINE], out: &mut [u8; OUT], state: State, line: u64) -> State {
-    let a = tell_case(name, out, with_failure(state), b"FAIL ");
-    let b = tell(out, a, b", line ");
-    let c = tell_number(out, b, line);
-    tell(out, c, b"\n")
+pub fn fail(
+    rt: &impl Reports,
+    name: &[u8; LINE],
+    out: &mut [u8; OUT],
+    state: State,
+    line: u64,
+) -> io::Result<State> {
+    let a = tell_case(rt, name, out, with_failure(state), b"FAIL ")?;
+    let b = tell(rt, out, a, b", line ")?;
+    let c = tell_number(rt, out, b, line)?;
+    tell(rt, out, c, b"\n")
 }
 
 // The case fails at this line, with what was expected and what was given.
 pub fn fail_with(
+    rt: &impl Reports,
     name: &[u8; LINE],
     out: &mut [u8; OUT],
     state: State,
     line: u64,
     expected: &[u8],
     given: &[u8],
-) -> State {
-    let a = fail(name, out, state, line);
-    let b = tell_line(out, a, b"     expected: ", expected);
-    tell_line(out, b, b"     given:    ", given)
+) -> io::Result<State> {
+    let a = fail(rt, name, out, state, line)?;
+    let b = tell_line(rt, out, a, b"     expected: ", expected)?;
+    tell_line(rt, out, b, b"     given:    ", given)
 }
 
 // The first characters from `from` on, and that there are more.
-fn tell_start(line: &[u8], from: usize, out: &mut [u8; OUT], state: State) -> State {
-    let st = tell(out, state, part(line, from, plus(from, SHOWN)));
-    tell(out, st, b"..")
+fn tell_start(
+    rt: &impl Reports,
+    line: &[u8],
+    from: usize,
+    out: &mut [u8; OUT],
+    state: State,
+) -> io::Result<State> {
+    let st = tell(rt, out, state, part(line, from, plus(from, SHOWN)))?;
+    tell(rt, out, st, b"..")
 }
 
 // A word of the line, or its first characters.
-fn tell_some(line: &[u8], w: Word, out: &mut [u8; OUT], state: State) -> State {
+fn tell_some(
+    rt: &impl Reports,
+    line: &[u8],
+    w: Word,
+    out: &mut [u8; OUT],
+    state: State,
+) -> io::Result<State> {
     if less(w.to, w.from) <= SHOWN {
-        return tell(out, state, octets_of(line, w));
+        return tell(rt, out, state, octets_of(line, w));
     }
-    tell_start(line, w.from, out, state)
+    tell_start(rt, line, w.from, out, state)
 }
 
 // The word at `at`.
-fn tell_word(line: &[u8], at: usize, out: &mut [u8; OUT], state: State) -> State {
+fn tell_word(
+    rt: &impl Reports,
+    line: &[u8],
+    at: usize,
+    out: &mut [u8; OUT],
+    state: State,
+) -> io::Result<State> {
     let w = word_at(line, at);
     if w.to <= w.from {
-        return tell(out, state, b"the end of the line");
+        return tell(rt, out, state, b"the end of the line");
     }
-    tell_some(line, w, out, state)
+    tell_some(rt, line, w, out, state)
 }
 
 // What stands at `at`, and where that is.
-fn tell_given(line: &[u8], at: usize, out: &mut [u8; OUT], state: State) -> State {
-    let a = tell(out, state, b"     given:    ");
-    let b = tell_word(line, at, out, a);
-    let c = tell(out, b, b", at character ");
-    let d = tell_number(out, c, next(at) as u64);
-    tell(out, d, b"\n")
+fn tell_given(
+    rt: &impl Reports,
+    line: &[u8],
+    at: usize,
+    out: &mut [u8; OUT],
+    state: State,
+) -> io::Result<State> {
+    let a = tell(rt, out, state, b"     given:    ")?;
+    let b = tell_word(rt, line, at, out, a)?;
+    let c = tell(rt, out, b, b", at character ")?;
+    let d = tell_number(rt, out, c, next(at) as u64)?;
+    tell(rt, out, d, b"\n")
 }
 
 // The line cannot be read from `at` on.
 pub fn fail_reading(
+    rt: &impl Reports,
     line: &[u8],
     at: usize,
     expected: &[u8],
     name: &[u8; LINE],
     out: &mut [u8; OUT],
     state: State,
-) -> State {
-    let a = fail(name, out, state, state.line);
-    let b = tell_line(out, a, b"     expected: ", expected);
-    tell_given(line, at, out, b)
+) -> io::Result<State> {
+    let a = fail(rt, name, out, state, state.line)?;
+    let b = tell_line(rt, out, a, b"     expected: ", expected)?;
+    tell_given(rt, line, at, out, b)
 }
 
-fn tell_passed(name: &[u8; LINE], out: &mut [u8; OUT], state: State) -> State {
+fn tell_passed(
+    rt: &impl Reports,
+    name: &[u8; LINE],
+    out: &mut [u8; OUT],
+    state: State,
+) -> io::Result<State> {
     if state.show {
-        return state;
+        return Ok(state);
     }
-    let st = tell_case(name, out, state, b"ok   ");
-    tell(out, st, b"\n")
+    let st = tell_case(rt, name, out, state, b"ok   ")?;
+    tell(rt, out, st, b"\n")
 }
 
 fn with_pass(state: State) -> State {
@@ -275,23 +361,28 @@ fn with_pass(state: State) -> State {
 }
 
 // The open case passes, unless it has failed.
-pub fn close_case(name: &[u8; LINE], out: &mut [u8; OUT], state: State) -> State {
+pub fn close_case(
+    rt: &impl Reports,
+    name: &[u8; LINE],
+    out: &mut [u8; OUT],
+    state: State,
+) -> io::Result<State> {
     if !state.open {
-        return state;
+        return Ok(state);
     }
     if state.broken {
-        return state;
+        return Ok(state);
     }
-    tell_passed(name, out, with_pass(state))
+    tell_passed(rt, name, out, with_pass(state))
 }
 
 // The tally, which `show` has not.
-pub fn tally(out: &mut [u8; OUT], state: State) -> State {
+pub fn tally(rt: &impl Reports, out: &mut [u8; OUT], state: State) -> io::Result<State> {
     if state.show {
-        return state;
+        return Ok(state);
     }
-    let a = tell_number(out, state, state.passed);
-    let b = tell(out, a, b" passed, ");
-    let c = tell_number(out, b, state.failed);
-    tell(out, c, b" failed\n")
+    let a = tell_number(rt, out, state, state.passed)?;
+    let b = tell(rt, out, a, b" passed, ")?;
+    let c = tell_number(rt, out, b, state.failed)?;
+    tell(rt, out, c, b" failed\n")
 }

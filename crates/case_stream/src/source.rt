@@ -1,6 +1,8 @@
 // The input cut into lines as it comes: a buffer holds at most one line and one read, and each turn finds one line or reads on.
 use crate::report::LINE;
 use case_text::{copy_within, find, less, next, plus};
+use std::io;
+use std::io::Read;
 
 // One read asks for this many octets.
 const CHUNK: usize = 65536;
@@ -8,21 +10,21 @@ const CHUNK: usize = 65536;
 // What is read and not yet taken: at most a line and one read.
 pub const BUFFER: usize = 327680;
 
-// What a turn found: a line, a piece of one that is too long, the end of such a one, nothing yet, the end of the input, or that it cannot be
+// What a turn found: a line, a piece of one that is too long, the end of such a one, nothing yet, the end of the input, or why it cannot be
 // read.
-#[derive(Drop)]
+#[derive(Clone, Copy)]
 pub enum Turn {
     Line,
     Piece,
     LongEnd,
     Nothing,
     End,
-    Wrong,
+    Wrong(io::Error),
 }
 
 // What was found lies from `from` up to `to`; the next line begins at `rest`, and up to `seen` none ends; `have` octets are read. `long` says that
 // pieces of a line were found before, and `ended` that the input has no more.
-#[derive(Drop)]
+#[derive(Clone, Copy)]
 pub struct Source {
     pub turn: Turn,
     pub from: usize,
@@ -102,27 +104,25 @@ fn read(s: Source, turn: Turn, seen: usize, have: usize, ended: bool) -> Source 
 }
 
 // One read behind what the buffer has.
-fn read_behind(fd: i32, buffer: &mut [u8], have: usize) -> isize {
+fn read_behind(input: &mut impl Read, buffer: &mut [u8], have: usize) -> io::Result<usize> {
     if LINE < have {
-        return -1;
+        return Err(io::Error::from(io::ErrorKind::InvalidInput));
     }
     let end = have + CHUNK;
     if buffer.len() < end {
-        return -1;
+        return Err(io::Error::from(io::ErrorKind::InvalidInput));
     }
-    libc::read(fd, &mut buffer[have..end])
+    input.read(&mut buffer[have..end])
 }
 
 // No line ends in the buffer: what is left goes to its front, and behind it is read on.
-fn read_on(fd: i32, buffer: &mut [u8; BUFFER], s: Source) -> Source {
+fn read_on(input: &mut impl Read, buffer: &mut [u8; BUFFER], s: Source) -> Source {
     let left = less(s.have, s.rest);
     copy_within(buffer, 0, s.rest, left);
-    let got = read_behind(fd, buffer, left);
-    if got < 0 {
-        return read(s, Turn::Wrong, left, left, true);
+    match read_behind(input, buffer, left) {
+        Ok(got) => read(s, Turn::Nothing, left, plus(left, got), got == 0),
+        Err(error) => read(s, Turn::Wrong(error), left, left, true),
     }
-    let have = plus(left, io::count(got, buffer));
-    read(s, Turn::Nothing, left, have, got == 0)
 }
 
 // The input has ended: its last line may have no end of its own.
@@ -137,7 +137,7 @@ fn end_of(s: Source) -> Source {
 }
 
 // One turn.
-pub fn turn_on(fd: i32, buffer: &mut [u8; BUFFER], s: Source) -> Source {
+pub fn turn_on(input: &mut impl Read, buffer: &mut [u8; BUFFER], s: Source) -> Source {
     let end = find(buffer, s.seen, s.have, b'\n');
     if end < s.have {
         return found(s, end, next(end));
@@ -148,5 +148,5 @@ pub fn turn_on(fd: i32, buffer: &mut [u8; BUFFER], s: Source) -> Source {
     if LINE < less(s.have, s.rest) {
         return cut(s);
     }
-    read_on(fd, buffer, s)
+    read_on(input, buffer, s)
 }
