@@ -23,7 +23,7 @@ use Rattle.sending.specs.Sent.{join_reply_of}
 use Rattle.carry.specs.Carried.{no_deliveries, listed}
 use Rattle.carry.specs.declared.Deliveries.{Deliveries}
 use Rattle.member.specs.Messages.{existing_at, is_found, joined_at, table_after, join_outcome, messaged, reply_after}
-use Rattle.member.specs.declared.Given.TheVariants as goal
+use Rattle.member.specs.declared.Given.TheVariants as given
 use Rattle.member.specs.declared.Messaged.{Messaged}
 
 -- ---- what the table has for a Join
@@ -66,7 +66,7 @@ pub join_done_lem : (ts : List Record) (s : Cid) (j : Join) (n : ℕ) (known fre
     → known ≡ found 0 s j.channel ts → free ≡ lowest_free 0 ts → x ≡ existing_at ts known → b ≡ is_found free → d ≡ decided j x n b
     → after ≡ table_after ts s j n d free → (k ≡ length (join_reply_of s j n d)) × (last ≡ splice room 0 (join_reply_of s j n d))
     → none ≡ no_deliveries → at ≡ joined_at d known free
-    → (◌≡◌ {A = Messaged} (record { table = after; goal = goal.Joined at d; deliveries = none.each; count = 0; reply = k })
+    → (◌≡◌ {A = Messaged} (record { table = after; given = given.Joined at d; deliveries = none.each; count = 0; reply = k })
     (messaged (join_outcome ts [] s j n)))
     × (last ≡ reply_after (join_outcome ts [] s j n) room)
 unfolding join_outcome listed

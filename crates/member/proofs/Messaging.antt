@@ -24,7 +24,7 @@ use Rattle.asking.specs.declared.Asked.TheVariants as asked
 use Rattle.asking.proofs.Steps.{asked_wrapper}
 use Rattle.member.specs.Sizes.{message_sizes}
 use Rattle.member.specs.Messages.{Outcome, refused_message, join_outcome, asked_outcome, message_outcome, messaged, deliver_after, reply_after, MessageEndsAs}
-use Rattle.member.specs.declared.Given.TheVariants as goal
+use Rattle.member.specs.declared.Given.TheVariants as given
 use Rattle.member.specs.declared.Messaged.{Messaged}
 
 -- the answer m, the held octets after the call, and the delivery and reply rooms before and after it, as the outcome has them
@@ -52,7 +52,7 @@ module _ (m : Messaged) (held deliver deliver' reply reply' : List ℕ) where
 -- ---- a refusal
 
 pub refused_done : (ts : List Record) (n : ℕ) (none : Deliveries) → none ≡ no_deliveries
-    → ◌≡◌ {A = Messaged} (record { table = ts; goal = goal.Refused n; deliveries = none.each; count = 0; reply = 0 })
+    → ◌≡◌ {A = Messaged} (record { table = ts; given = given.Refused n; deliveries = none.each; count = 0; reply = 0 })
     (messaged (refused_message ts [] n))
 unfolding listed
 refused_done ts n none e = rw e

@@ -5,7 +5,7 @@ use mathlib.Core.List.{List, [], ◌∷◌}
 use mathlib.Core.Logic.{◌≢◌}
 use mathlib.Core.Path.{◌≡◌}
 use native.Mathlib.Omega.{arith}
-use lib.ListN.{length, get_or, set, length-map}
+use lib.ListN.{length, get_or, set}
 use mir.Val.{Val}
 use denote.RattleType.{RattleType}
 use denote.Laws.{Is}
@@ -28,7 +28,7 @@ use Rattle.carry.specs.Fits.{Fits}
 use Rattle.carry.specs.declared.Deliveries.{Deliveries}
 use Rattle.carry.proofs.PlanFits.{stepped_fits}
 use Rattle.member.specs.Messages.{refused_message, plan_outcome, wrapper_outcome, messaged}
-use Rattle.member.specs.declared.Given.TheVariants as goal
+use Rattle.member.specs.declared.Given.TheVariants as given
 use Rattle.member.specs.declared.Messaged.{Messaged}
 
 -- ---- the plan
@@ -37,7 +37,7 @@ use Rattle.member.specs.declared.Messaged.{Messaged}
 pub plan_done : (ts : List Record) (held : List ℕ) (i : ℕ) (w : Arrived) (c : List ℕ) (p : Plan) (all : Deliveries) (t : List Record) (k : ℕ)
     → all ≡ listed no_deliveries (delivered_by held i w c p) → t ≡ set ts i p.after → k ≡ length (reply_of p.after.terms p.reply)
     → ◌≡◌ {A = Messaged}
-    (record { table = t; goal = goal.Wrapped i p.fate p.thrown p.reply; deliveries = all.each; count = all.count; reply = k })
+    (record { table = t; given = given.Wrapped i p.fate p.thrown p.reply; deliveries = all.each; count = all.count; reply = k })
     (messaged (plan_outcome ts held i w c p))
 unfolding plan_outcome
 plan_done ts held i w c p all t k e f g = rw (e, f, g)
@@ -46,7 +46,7 @@ plan_done ts held i w c p all t k e f g = rw (e, f, g)
 
 -- what a function is told of an array, of one element
 module _ (R : RattleType) (d : R.Denot) where
-  told_at : (xs : List R.Denot) (us : List Val) → shadow (each R.Denot R.own xs us) → (i : ℕ) → i < length xs
+  told_at : (xs : List R.Denot) (us : List Val) → shadow (each R.Denot R.own_val xs us) → (i : ℕ) → i < length xs
       → (u : Val) × Is R (get_or xs i d) (u ∷ [])
   told_at [] us s i h = absurd (omega arith)
   told_at (x ∷ xs) [] s i h = absurd s
@@ -60,7 +60,7 @@ eight_records ts vs p = p.1.0.1
 pub four_places : (ts : List Record) (vs : List Val) → Is (Array (row the_type) 8) ts vs → (i : ℕ) → i < 8 → length (record_at ts i).places ≡ 4
 four_places ts vs p i h =
     let q = told_at (row the_type) (blank []) ts p.0 p.1.1 i (omega (arith, eight_records ts vs p)) in
-    rw length-map at q.1.1.1.1.1.1.1.1.1.1.1.0.1.0.1
+    q.1.1.1.1.1.1.1.1.1.1.1.0.1.0.1
 
 -- ---- the step of a used, well-formed record
 
