@@ -14,7 +14,7 @@ use Rattle.message.specs.declared.Message.TheVariants as message
 use Rattle.plain.specs.declared.Destination.{Destination}
 use Rattle.plain.specs.declared.Plain.{Plain}
 use Rattle.plain.specs.declared.Typed.TheVariants as typed
-use Rattle.plain.specs.Messages.{subject, address_of, member_of, wrapper_of, join_of, typed_of}
+use Rattle.plain.specs.Messages.{address_of, member_of, wrapper_of, join_of, typed_of}
 
 module _ (d : Destination) (p : Parameters) where
   pub null_address : d.kind ≡ null → address.Null p ≡ address_of d p
