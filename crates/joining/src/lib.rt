@@ -29,6 +29,7 @@ pub enum Decision {
     Make(Parameters),
 }
 
+#[tactic(auto, unfolding(crate::specs::Joining::legal_block))]
 fn legal_block(p: Parameters) -> bool
     ensures { result ≡ legal_block p }
 {
@@ -48,6 +49,7 @@ fn legal_address(address: Address) -> bool
     }
 }
 
+#[tactic(auto, unfolding(crate::specs::Joining::legal))]
 fn is_legal(j: Join) -> bool
     ensures { result ≡ legal j }
 {
@@ -58,6 +60,7 @@ fn is_legal(j: Join) -> bool
     legal_address(address)
 }
 
+#[tactic(auto, unfolding(crate::specs::Joining::decide_new))]
 fn decide_new(p: Parameters, reciprocal: u16, free: bool) -> Decision
     ensures { result ≡ decide_new p reciprocal free }
 {
@@ -97,6 +100,7 @@ fn decide_for(
 }
 
 // What a Join is answered.
+#[tactic(auto, unfolding(crate::specs::Joining::decided))]
 pub fn decide(j: Join, existing: Existing, reciprocal: u16, free: bool) -> Decision
     ensures { result ≡ decided j existing reciprocal free }
 {
@@ -111,6 +115,7 @@ pub fn decide(j: Join, existing: Existing, reciprocal: u16, free: bool) -> Decis
     }
 }
 
+#[tactic(auto, using(crate::proofs::Arms::four_free))]
 fn all_free(places: [Place; 4]) -> [Place; 4]
     ensures { result ≡ map free_place places }
 {
@@ -122,6 +127,7 @@ fn all_free(places: [Place; 4]) -> [Place; 4]
 }
 
 // The record that a Join makes of a free one.
+#[tactic(auto, unfolding(crate::specs::Joining::new_record))]
 pub fn new_record(old: Record, owner: Cid, j: Join, p: Parameters, reciprocal: u16) -> Record
     ensures { result ≡ new_record old owner j p reciprocal }
 {
@@ -151,6 +157,7 @@ pub fn new_record(old: Record, owner: Cid, j: Join, p: Parameters, reciprocal: u
     }
 }
 
+#[tactic(auto, unfolding(crate::specs::Replies::member_at))]
 fn member_at(t: Terms, reliable: Reliable) -> Membership
     ensures { result ≡ member_at t reliable }
 {
@@ -163,6 +170,7 @@ fn member_at(t: Terms, reliable: Reliable) -> Membership
     }
 }
 
+#[tactic(auto, unfolding(crate::specs::Replies::asked_at))]
 fn asked_at(owner: Cid, j: Join, reliable: Reliable) -> Membership
     ensures { result ≡ asked_at owner j reliable }
 {
@@ -175,6 +183,7 @@ fn asked_at(owner: Cid, j: Join, reliable: Reliable) -> Membership
 }
 
 // The Join Refuse of a Join.
+#[tactic(auto, unfolding(crate::specs::Replies::join_refuse_of))]
 pub fn join_refuse_of(owner: Cid, j: Join, reason: u8) -> Message
     ensures { result ≡ join_refuse_of owner j reason }
 {
@@ -186,6 +195,7 @@ pub fn join_refuse_of(owner: Cid, j: Join, reason: u8) -> Message
 }
 
 // The Join Accept of a Join.
+#[tactic(auto, unfolding(crate::specs::Replies::acceptance))]
 pub fn acceptance_of(owner: Cid, j: Join, reliable: Reliable, reciprocal: u16) -> Message
     ensures { result ≡ acceptance owner j reliable reciprocal }
 {
@@ -196,6 +206,7 @@ pub fn acceptance_of(owner: Cid, j: Join, reliable: Reliable, reciprocal: u16) -
 }
 
 // The Leaving of a channel.
+#[tactic(auto, unfolding(crate::specs::Replies::departure))]
 pub fn departure_of(t: Terms, reliable: Reliable, reason: u8) -> Message
     ensures { result ≡ departure t reliable reason }
 {
@@ -206,6 +217,7 @@ pub fn departure_of(t: Terms, reliable: Reliable, reason: u8) -> Message
 }
 
 // The NAK of a channel.
+#[tactic(auto, unfolding(crate::specs::Replies::missing))]
 pub fn nak_of(t: Terms, reliable: Reliable, first: Reliable, last: Reliable) -> Message
     ensures { result ≡ missing t reliable first last }
 {
