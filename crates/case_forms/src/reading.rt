@@ -11,7 +11,7 @@ use case_text::{
 
 // How far a line is read: the place in it, how many values were read, and the end of its octets. If it cannot be read, `at` is where, and the first
 // `said` octets say what was expected there.
-#[derive(Drop)]
+#[derive(Clone, Copy)]
 pub struct Spot {
     pub ok: bool,
     pub at: usize,

@@ -58,7 +58,7 @@ fn put_blank(said: &mut [u8; SAID], at: usize) -> usize {
 }
 
 // Where writing by a form stands: the end of what is written, and the next value.
-#[derive(Drop)]
+#[derive(Clone, Copy)]
 struct Pen {
     at: usize,
     value: usize,
