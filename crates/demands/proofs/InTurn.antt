@@ -61,7 +61,7 @@ use Rattle.asking.specs.Asking.{arrived_of, wrapper_for, wrapper_asks, join_asks
 use Rattle.asking.specs.declared.Asked.{Asked}
 use Rattle.member.specs.Sizes.{table_size, held_size, deliver_size, reply_size, message_sizes}
 use Rattle.member.specs.Messages.{Outcome, refused_message, existing_at, is_found, join_done, join_outcome, plan_outcome, wrapper_outcome, asked_outcome, message_outcome}
-use Rattle.member.specs.declared.Given.TheVariants as goal
+use Rattle.member.specs.declared.Given.TheVariants as given
 use Rattle.demands.specs.Runs.{Came, run, own_of, shown, Each, none, more}
 use Rattle.demands.specs.Calls as calls
 use Rattle.demands.specs.Calls.{Call, State, table_step, Sound, Lawful, Right}
@@ -212,6 +212,7 @@ in_order t n (x ∷ xs) hn (more hx small) turns =
 brought_small : {x : Delivered} (cs : List Call) {ms : List (Came Channel Told)} → Each Lawful cs → BroughtBy x cs ms → Small x
 brought_small (calls.message held deliver reply sender ours v d n ∷ cs) (more o each) (here w e t) = rw e (wrapper_says v d o).1
 brought_small (c ∷ cs) (more o each) (later b) = brought_small cs each b
+brought_small [] _ b = elim b [ ]
 
 known_small : (h : Channel) (cs : List Call) (ms : List (Came Channel Told)) → Sound h.at → Each Lawful cs → (x : Delivered) → From h cs ms x → Small x
 known_small h cs ms sound each x (received b) = brought_small cs each b
@@ -263,7 +264,7 @@ module _ (ts : List Record) (i : ℕ) (p : Parameters) where
   -- record i was made by this Join: it is the one of the table, and the one that is told of
   abbrev Made : Cid → Join → ℕ → Outcome → Type 0
   Made o j n out =
-      out.given ≡ goal.Joined (search.At i) (decision.Make p)
+      out.given ≡ given.Joined (search.At i) (decision.Make p)
       → (out.table ≡ set ts i (new_record (record_at ts i) o j p n)) × (i < length ts)
 
   module _ (held : List ℕ) (o : Cid) (j : Join) (n : ℕ) where
@@ -390,7 +391,7 @@ join_call = calls.message held_size deliver_size reply_size (sample.cid 3 4) (re
 -- it is made in the lowest free record
 pub makes_with : (lent : List ℕ) → length lent ≡ held_size
     → (message_outcome (sample.table_of sample.free) lent deliver_size reply_size (sample.cid 3 4) (replicate 16 0) 4 sample.join_data 9).given
-    ≡ goal.Joined (search.At 0) (decision.Make (parameters_at sample.join_data 31))
+    ≡ given.Joined (search.At 0) (decision.Make (parameters_at sample.join_data 31))
 unfolding message_outcome message_sizes asked_of read_message readable readable_join length_of look message_of join_of address_of parameters_at join_asks join_outcome
     found lowest_free named same cid_at number decided decide_new legal legal_block legal_names legal_parameters min_expiry
 makes_with lent l = rw (l, (sample.joined_one).right.formed)
