@@ -14,7 +14,7 @@ use Rattle.wrapper.specs.declared.Arrived.{Arrived}
 use Rattle.wrapper.specs.declared.Fate.{Fate}
 use Rattle.wrapper.specs.declared.Fate.TheVariants as fate
 use Rattle.wrapper.specs.declared.Plan.{Plan}
-use Rattle.carry.specs.Carried.{place_begins, held_after, Delivered, at_once, from_place, delivered_by}
+use Rattle.carry.specs.Carried.{place_begins, held_after, at_once, from_place, delivered_by}
 use Rattle.carry.specs.Whole.{Each, Whole}
 use Rattle.carry.specs.Fits.{Fits}
 use Rattle.carry.proofs.Carrying.{place_ends, at_once_most}
