@@ -1,5 +1,5 @@
 -- Writing a message into a lent room (01, "Refusal numbers" and "Blocks and layouts"): m is the message, c the contents and r the room.
-use Rattle.std.specs.Prelude.{ℕ, ◌+◌, Bool, cond, not, List, ◌++◌, length, take, ltb}
+use Rattle.std.specs.Prelude.{ℕ, Bool, cond, not, List, ◌++◌, length, take, ltb}
 use Rattle.octets.specs.Octets.{splice}
 use Rattle.block.specs.Written.{pdu}
 use Rattle.message.specs.Lengths.{reliable_wrapper, unreliable_wrapper, join, join_refuse, join_accept, leaving, ack, nak, get_sessions, null, ipv4, most_contents}

@@ -1,0 +1,10 @@
+-- `writing::put_cid` meets its contract: its writes are one run. Assumes nothing.
+use native.Mathlib.Omega.{arith}
+use Rattle.octets.specs.Octets.{octets}
+use Rattle.writing.specs.Fields.{cid_octets}
+use Rattle.writing.proofs.Runs.{two_written}
+use Rattle.writing.proofs.put_cid.Goals as goal
+
+pub returns : goal.returns
+unfolding octets cid_octets
+returns c = two_written _ _ _ _ _ _ c.put_u64.ensures c.put_u64-2.ensures (omega arith)

@@ -1,0 +1,18 @@
+-- `writing::put_membership` meets its contract: its writes are one run. Assumes nothing.
+use native.Mathlib.Omega.{arith}
+use Rattle.octets.specs.Octets.{octets}
+use Rattle.writing.specs.Fields.{cid_octets, membership_octets}
+use Rattle.writing.proofs.Runs.{◌then◌, done, written}
+use Rattle.writing.proofs.put_membership.Goals as goal
+
+pub returns : goal.returns
+unfolding octets cid_octets membership_octets
+returns c =
+    written
+    (c.put_cid.ensures
+    then c.put_u16.ensures
+    then c.put_u16-2.ensures
+    then c.put_u32.ensures
+    then done)
+    (search)
+    (omega arith)

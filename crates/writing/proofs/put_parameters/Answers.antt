@@ -1,0 +1,20 @@
+-- `writing::put_parameters` meets its contract: its writes are one run. Assumes nothing.
+use native.Mathlib.Omega.{arith}
+use Rattle.octets.specs.Octets.{octets}
+use Rattle.writing.specs.Fields.{parameters_octets}
+use Rattle.writing.proofs.Runs.{◌then◌, done, written}
+use Rattle.writing.proofs.put_parameters.Goals as goal
+
+pub returns : goal.returns
+unfolding octets parameters_octets
+returns c =
+    written
+    (c.put_u8.ensures
+    then c.put_u8-2.ensures
+    then c.put_u16.ensures
+    then c.put_u16-2.ensures
+    then c.put_u16-3.ensures
+    then c.put_u8-3.ensures
+    then done)
+    (search)
+    (omega arith)

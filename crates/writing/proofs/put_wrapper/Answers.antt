@@ -1,0 +1,21 @@
+-- `writing::put_wrapper` meets its contract: its writes are one run. Assumes nothing.
+use native.Mathlib.Omega.{arith}
+use Rattle.octets.specs.Octets.{octets}
+use Rattle.writing.specs.Fields.{wrapper_octets}
+use Rattle.writing.proofs.Runs.{◌then◌, done, written}
+use Rattle.writing.proofs.put_wrapper.Goals as goal
+
+pub returns : goal.returns
+unfolding octets wrapper_octets
+returns c =
+    written
+    (c.put_u16.ensures
+    then c.put_u32.ensures
+    then c.put_u32-2.ensures
+    then c.put_u32-3.ensures
+    then c.put_u16-2.ensures
+    then c.put_u16-3.ensures
+    then c.put_u16-4.ensures
+    then done)
+    (search)
+    (omega arith)
