@@ -1,5 +1,6 @@
-// The library as a C receiver sees it: reading blocks and messages, and writing messages, on numbers and octets alone. include/sdt.h says
-// the same in C. An answer is a struct of numbers that begins with its outcome: 0, a refusal's number, or one of the two further words below.
+// The library as a C receiver sees it: reading blocks and messages, and writing messages, on numbers and octets alone. An answer is a struct
+// of numbers that begins with its outcome: 0, a refusal's number, or one of the two further words below. The crate sdt_c exports these calls
+// to C, and include/sdt.h says the same in C.
 #![tactic(auto)]
 
 ghost use Rattle.std.specs.Prelude.{◌≡◌};
@@ -68,8 +69,7 @@ pub struct WriteAnswer {
 }
 
 // Reads the message of a block at `position`, counted from 0.
-#[unsafe(no_mangle)]
-pub extern "C" fn sdt_read_block(block: &[u8], position: u32) -> BlockAnswer
+pub fn sdt_read_block(block: &[u8], position: u32) -> BlockAnswer
     ensures { SdtReadBlockAllows block.now position result }
 {
     match block::read_block(block, position) {
@@ -97,8 +97,7 @@ pub extern "C" fn sdt_read_block(block: &[u8], position: u32) -> BlockAnswer
 }
 
 // Opens a block: how many messages it has, and the cursor before the first.
-#[unsafe(no_mangle)]
-pub extern "C" fn sdt_open_block(block: &[u8]) -> OpenAnswer
+pub fn sdt_open_block(block: &[u8]) -> OpenAnswer
     ensures { SdtOpenBlockAllows block.now result }
 {
     let start = Cursor {
@@ -128,8 +127,7 @@ pub extern "C" fn sdt_open_block(block: &[u8]) -> OpenAnswer
 }
 
 // Reads the message behind a cursor.
-#[unsafe(no_mangle)]
-pub extern "C" fn sdt_next_message(block: &[u8], cursor: Cursor) -> NextAnswer
+pub fn sdt_next_message(block: &[u8], cursor: Cursor) -> NextAnswer
     ensures { SdtNextMessageAllows block.now cursor result }
 {
     match block::next_message(block, cursor) {
@@ -156,8 +154,7 @@ pub extern "C" fn sdt_next_message(block: &[u8], cursor: Cursor) -> NextAnswer
 
 // Reads the message of this vector and data. Each kind returns by itself, so that its answer is written in place and no kind pays for
 // the fields of another.
-#[unsafe(no_mangle)]
-pub extern "C" fn sdt_read_message(vector: u8, body: &[u8]) -> MessageAnswer
+pub fn sdt_read_message(vector: u8, body: &[u8]) -> MessageAnswer
     ensures { SdtReadMessageAllows vector body.now result }
 {
     let MessageRead::Read(m) = message::read_message(vector, body) else {
@@ -301,8 +298,7 @@ fn write_answer(w: Wrote) -> WriteAnswer
 }
 
 // Writes a message at the front of the room, with contents if it is a wrapper.
-#[unsafe(no_mangle)]
-pub extern "C" fn sdt_write_message(m: Plain, contents: &[u8], room: &mut [u8]) -> WriteAnswer
+pub fn sdt_write_message(m: Plain, contents: &[u8], room: &mut [u8]) -> WriteAnswer
     ensures { SdtWriteMessageAllows m contents.now room.old (record { answer = result; room = room.new }) }
 {
     let Typed::Is(message) = plain::typed_of(m) else {
