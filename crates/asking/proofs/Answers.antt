@@ -1,13 +1,10 @@
 -- The leaves of the definitions of specs/, over plain variables. Assumes nothing.
 use Prim.Native.Nat.{ℕ, ◌-◌, ◌<◌, ◌≤◌}
 use mathlib.Core.Bool.{Bool, true, false, not}
-use mathlib.Core.List.{List, [], ◌∷◌}
+use mathlib.Core.List.{List}
 use mathlib.Core.Path.{◌≡◌, refl}
 use lib.ListN.{length, length-drop}
-use types.Run.{OneOf, miss}
-use denote.Enum.Declared.{tag_of}
 use borrow.Author.Tests.{not-true, not-false, lt-ltb, le-ltb}
-use Rattle.message.specs.contracts.Message.{the_type}
 use Rattle.counter.specs.declared.Reliable.{Reliable}
 use Rattle.message.specs.Reading.{read_message}
 use Rattle.message.specs.declared.Cid.{Cid}
@@ -60,21 +57,19 @@ pub ruleset joins = (join_other, join-ours)
 
 -- ---- a message
 
--- the variants beside the wrappers, the Join and the ACK, by their places
-abbrev past : List ℕ
-past = 3 ∷ 4 ∷ 5 ∷ 7 ∷ 8 ∷ []
-
 module _ (ts : List Record) (s o : Cid) where
-  other-asks : (m : Message) (n : ℕ) → OneOf past (tag_of the_type m) → asked.Refused 5 ≡ message_asks ts s o m n
-  other-asks (message.ReliableWrapper w) n h = absurd (miss past 0 tt h)
-  other-asks (message.UnreliableWrapper w) n h = absurd (miss past 1 tt h)
-  other-asks (message.Join j) n h = absurd (miss past 2 tt h)
-  other-asks (message.JoinRefuse m reason) n h = refl
-  other-asks (message.JoinAccept m reciprocal) n h = refl
-  other-asks (message.Leaving m reason) n h = refl
-  other-asks (message.Ack r) n h = absurd (miss past 6 tt h)
-  other-asks (message.Nak m first last) n h = refl
-  other-asks (message.GetSessions cid) n h = refl
+  -- a message that is neither a wrapper nor a Join nor an ACK
+  other-asks : (m : Message) (n : ℕ) → ((w : Wrapper) → m ≡ message.ReliableWrapper w → ⊥) → ((w : Wrapper) → m ≡ message.UnreliableWrapper w → ⊥)
+      → ((j : Join) → m ≡ message.Join j → ⊥) → ((r : Reliable) → m ≡ message.Ack r → ⊥) → asked.Refused 5 ≡ message_asks ts s o m n
+  other-asks (message.ReliableWrapper w) n a b c d = absurd (a w refl)
+  other-asks (message.UnreliableWrapper w) n a b c d = absurd (b w refl)
+  other-asks (message.Join j) n a b c d = absurd (c j refl)
+  other-asks (message.JoinRefuse m reason) n a b c d = refl
+  other-asks (message.JoinAccept m reciprocal) n a b c d = refl
+  other-asks (message.Leaving m reason) n a b c d = refl
+  other-asks (message.Ack r) n a b c d = absurd (d r refl)
+  other-asks (message.Nak m first last) n a b c d = refl
+  other-asks (message.GetSessions cid) n a b c d = refl
 
   module _ (v : ℕ) (d : List ℕ) where
     module _ (r : MessageRead) (e : r ≡ read_message v d) where
@@ -101,7 +96,8 @@ module _ (ts : List Record) (s o : Cid) where
         pub asks-ack : (r : Reliable) → m ≡ message.Ack r → asked.Refused 4 ≡ asked_of ts s o v d
         asks-ack r g = rw (asks_read, g)
 
-        pub asks-other : OneOf past (tag_of the_type m) → asked.Refused 5 ≡ asked_of ts s o v d
-        asks-other h = rw (asks_read, ← other-asks m (length d - 20) h)
+        pub asks-other : ((w : Wrapper) → m ≡ message.ReliableWrapper w → ⊥) → ((w : Wrapper) → m ≡ message.UnreliableWrapper w → ⊥)
+            → ((j : Join) → m ≡ message.Join j → ⊥) → ((r : Reliable) → m ≡ message.Ack r → ⊥) → asked.Refused 5 ≡ asked_of ts s o v d
+        asks-other a b c k = rw asks_read (other-asks m (length d - 20) a b c k)
 
 pub ruleset messages = (asks-unreadable, asks-reliable, asks-unreliable, asks_join, asks-ack, asks-other)
