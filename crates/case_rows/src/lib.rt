@@ -143,7 +143,7 @@ pub fn table_of(rows: &[u64; ROWS]) -> [Record; 8] {
 // ---- to numbers
 
 // The counters of a record: T, R, K and A.
-#[derive(Drop)]
+#[derive(Clone, Copy)]
 struct Counters {
     total: u32,
     reliable: u32,
