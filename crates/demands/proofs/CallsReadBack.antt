@@ -42,7 +42,6 @@ use Rattle.member.specs.Sizes.{deliver_size, reply_size, message_sizes, elapsed_
 use Rattle.member.specs.Messages.{Outcome, refused_message, existing_at, is_found, join_outcome, plan_outcome, wrapper_outcome, asked_outcome, message_outcome}
 use Rattle.member.specs.Elapsing.{longest, Passing, refused_elapsed, passing, elapsed_outcome, sent_by}
 use Rattle.member.specs.Leaving.{Departing, refused_leave, departing, leave_for, leave_outcome}
-use Rattle.member.specs.declared.Given.TheVariants as given
 use Rattle.demands.specs.Calls.{Sound, Both}
 use Rattle.demands.specs.Channel.{entry_at}
 use Rattle.demands.specs.ReadBack.{ReadFrom, reply_means, event_means, given_means, leave_means, FitTerms, FitAsked, FitExisting, Wide}

@@ -25,7 +25,6 @@ use Rattle.member.specs.Sizes.{leave_sizes}
 use Rattle.member.specs.Elapsing.{passing, passed}
 use Rattle.member.specs.Leaving.{refused_leave, departing, leave_for, leave_outcome}
 use Rattle.member.specs.Messages.{Outcome, refused_message, join_done, plan_outcome, message_outcome}
-use Rattle.member.specs.declared.Given.TheVariants as given
 use Rattle.demands.specs.Calls.{State, Right}
 use Rattle.demands.specs.Frame.{moved, Still}
 use Rattle.demands.proofs.Lemmas.Slabs.{slab_other}

@@ -4,7 +4,7 @@
 -- at least one number from R + 1 on, none past K, the highest that is known to have been sent, and none that is held (`only_missing`). Both assume that the channel is
 -- joined in a right table at the start and that the data of messages are octets (`Joined`, `Lawful`); the example at the end meets that, delivers two
 -- wrappers and sends a NAK.
-use Prim.Native.Nat.{ℕ, ◌+◌, ◌<◌, ◌≤◌}
+use Prim.Native.Nat.{ℕ, ◌<◌, ◌≤◌}
 use mathlib.Core.Bool.{Bool, true, false, false≢true, cond}
 use mathlib.Core.List.{List, [], ◌∷◌, ◌++◌, map}
 use mathlib.Core.Logic.{◌⊎◌, inl, inr, ◌≢◌}

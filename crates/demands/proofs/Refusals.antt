@@ -39,7 +39,6 @@ use Rattle.member.specs.Sizes.{message_sizes, elapsed_sizes, leave_sizes}
 use Rattle.member.specs.Messages.{Outcome, is_found, refused_message, join_outcome, plan_outcome, stepped_outcome, wrapper_outcome, asked_outcome, message_outcome, number_of, messaged, message_end}
 use Rattle.member.specs.Elapsing.{longest, Passing, refused_elapsed, passing, elapsed_outcome, elapsed_end}
 use Rattle.member.specs.Leaving.{Departing, refused_leave, departing, leave_for, leave_outcome, left, leave_end}
-use Rattle.member.specs.declared.Given.TheVariants as given
 use Rattle.demands.specs.Refusals.{first_number, First, None, check, unreadable, is_wrapper, too_long, record_found, is_old, is_inconsistent, message_checks, elapsed_checks, leave_checks, message_stands, elapsed_stands, leave_stands}
 use Rattle.demands.proofs.Lemmas.Lists.{standing, silent, quiet_cells}
 use Rattle.demands.proofs.Lemmas.Checks.{Numbered, empty, numbered, first_is_given, given_is_first, none_is_given, given_is_none}

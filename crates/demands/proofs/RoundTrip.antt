@@ -5,7 +5,7 @@
 use mathlib.Core.Path.{◌≡◌, refl}
 use mathlib.Core.Bool.{true}
 use mathlib.Core.List.{List, [], ◌∷◌, ◌++◌}
-use Prim.Native.Nat.{ℕ, zero, suc, ◌-◌, ◌^◌, ◌/◌, ◌≤◌}
+use Prim.Native.Nat.{ℕ, zero, suc, ◌^◌, ◌/◌, ◌≤◌}
 use native.Mathlib.Nat.{mod-lt}
 use lib.ListN.{length, get_or, drop}
 use lib.Seq.{take-length}
@@ -22,7 +22,7 @@ use Rattle.message.specs.declared.Message.TheVariants as message
 use Rattle.message.specs.declared.MessageRead.TheVariants.{Read}
 use Rattle.writing.specs.Fields.{wrapper_octets, fields_of}
 use Rattle.writing.specs.Fits.{Fits}
-use Rattle.writing.specs.Writing.{vector_of, address_of, has_form, carried_of, contents_of, pdu_of, wrote}
+use Rattle.writing.specs.Writing.{vector_of, address_of, has_form, carried_of, contents_of, pdu_of}
 use Rattle.demands.specs.ReadBack.{IsWrapper, ReadBack, WrittenAgain, reliable, unreliable}
 use Rattle.demands.proofs.Lemmas.Back.{message_back, length_behind_head, alone, not_refused, in_room}
 use Rattle.demands.proofs.Lemmas.Again.{again}

@@ -1,6 +1,6 @@
 -- The examples P 1 to 14 of 01 ("Examples on each side") as one table over the definitions: what is given, and what 01 says it gives.
 use Rattle.std.specs.Prelude.{ℕ, Bool, true, false, List, [], ◌∷◌, ℤ, pos, negsuc, get_or, replicate}
-use Rattle.octets.specs.Octets.{number, part}
+use Rattle.octets.specs.Octets.{part}
 use Rattle.counter.specs.Distance.{distance}
 use Rattle.block.specs.Block.{read_block}
 use Rattle.block.specs.declared.BlockRead.{BlockRead}

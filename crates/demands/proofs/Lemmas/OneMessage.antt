@@ -16,7 +16,6 @@ use Rattle.message.specs.declared.Cid.{Cid}
 use Rattle.message.specs.declared.Address.{Address}
 use Rattle.message.specs.declared.Address.TheVariants as address
 use Rattle.message.specs.declared.Join.{Join}
-use Rattle.message.specs.declared.Wrapper.{Wrapper}
 use Rattle.record.specs.Reasons.{illegal_parameters}
 use Rattle.record.specs.WellFormed.{most_contents}
 use Rattle.record.specs.declared.Record.{Record}

@@ -1,7 +1,7 @@
 -- Messages and a table for the examples at the end of the theorems: a reliable wrapper on channel 7 and a Join to channel 7, whose data are octets (`lawful`), and a
 -- well-formed table of which record 2 has channel 7 and holds a wrapper (`joined_one`).
 use Prim.{tt}
-use Prim.Native.Nat.{ℕ, zero, suc, ◌<◌}
+use Prim.Native.Nat.{ℕ, zero, suc}
 use mathlib.Core.Bool.{Bool, true, false, ◌&&◌, and-eq-true_iff}
 use mathlib.Core.List.{List, [], ◌∷◌, ◌++◌}
 use mathlib.Core.Path.{◌≡◌, refl, ◌∙◌}
@@ -19,7 +19,6 @@ use Rattle.record.specs.Profile.{min_expiry, max_retries}
 use Rattle.record.specs.WellFormed.{held_right, apart, apart_from, held_apart, held_all_right, closed, gap_right, terms_right, well_formed}
 use Rattle.record.specs.declared.Gap.TheVariants as gap
 use Rattle.record.specs.declared.Record.{Record}
-use Rattle.record.proofs.Formed.{formed}
 use Rattle.record.specs.Places.{no_place}
 use Rattle.table.specs.Table.{same, named, differs, table_formed, blank}
 use Rattle.carry.specs.Carried.{place_begins}
