@@ -5,11 +5,9 @@ use native.Mathlib.Nat.{zero-add}
 use native.Mathlib.Omega.{arith}
 use mathlib.Core.Path.{◌≡◌, refl, sym, ap, ◌∙◌}
 use mathlib.Core.Bool.{true}
-use mathlib.Core.List.{List, [], ◌∷◌, ◌++◌, append-nil, append_assoc}
+use mathlib.Core.List.{List, [], ◌++◌, append-nil, append_assoc}
 use lib.ListN.{length, take, drop, length-append, length-drop}
 use lib.Seq.{take-length, drop-length, drop-drop}
-use types.Run.{OneOf, miss}
-use denote.Enum.Declared.{tag_of}
 use Rattle.octets.specs.Octets.{splice}
 use Rattle.octets.proofs.Writes.{splice_splice}
 use Rattle.message.specs.declared.Message.{Message}
@@ -17,14 +15,9 @@ use Rattle.writing.specs.Writing.{has_form, leaves, room_after}
 use Rattle.writing.specs.Allowed.{WriteEnds, WriteMessageAllows}
 use Rattle.writing.specs.declared.Wrote.{Wrote}
 use Rattle.writing.specs.declared.Wrote.TheVariants.{Octets, NoForm, NoRoom, ContentsOver}
-use Rattle.writing.specs.contracts.Wrote.{the_type}
 use Rattle.writing.proofs.Forms.{carried_within, contents_length}
 use Rattle.writing.proofs.Answers.{Answer, whole, answer-is}
 use Rattle.sending.specs.Sent.{Put, sent_of}
-
--- the places of the refusals among the answers
-abbrev refusals : List ℕ
-refusals = 1 ∷ 2 ∷ 3 ∷ []
 
 count : Wrote → ℕ
 count (Octets n) = n
@@ -49,8 +42,8 @@ module _ (m : Message) (r s : List ℕ) (w : Wrote) (asked : (has_form m ≡ tru
   )
 
   -- and nothing else is
-  pub never_refused : OneOf refusals (tag_of the_type w) → ⊥
-  never_refused h = miss refusals 0 tt (rw answered at h)
+  pub never_refused : ((n : ℕ) → w ≡ Octets n → ⊥) → ⊥
+  never_refused h = h _ answered
 
 -- octets zs put into what is behind the first n of s, and that put back
 behind : (s zs : List ℕ) (n : ℕ)
