@@ -217,6 +217,7 @@ pub fn take_message(
 }
 
 // Whether every piece lent to a message call has its size.
+#[tactic(auto, unfolding(crate::specs::Sizes::message_sizes))]
 pub fn message_sizes(held: usize, deliver: usize, reply: usize, sender: usize, ours: usize) -> bool
     ensures { result ≡ message_sizes 8 held deliver reply sender ours }
 {

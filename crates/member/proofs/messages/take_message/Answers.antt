@@ -1,0 +1,41 @@
+-- Each answer is that of what the message asks.
+use Rattle.std.proofs.Common.{rules, arith}
+use Rattle.message.specs.Reading.{contents}
+use Rattle.member.proofs.Wrapping.{eight_records}
+use Rattle.member.proofs.Messaging.{answers_as, refused_answers, join_answers, asks_for, steps, behind_fields}
+use Rattle.member.proofs.messages.take_message.Goals as goal
+
+pub slice_bounds-take_wrapper-count : goal.slice_bounds-take_wrapper-count
+slice_bounds-take_wrapper-count c = (steps _ _ _ _ _ _ c.asks.ensures _ _ c.in-Wrapper.is c.requires.table_value).own
+
+pub slice_bounds-take_wrapper-start : goal.slice_bounds-take_wrapper-start
+slice_bounds-take_wrapper-start c = (steps _ _ _ _ _ _ c.asks.ensures _ _ c.in-Wrapper.is c.requires.table_value).own
+
+pub take_wrapper-requires-clause-at_bound : goal.take_wrapper-requires-clause-at_bound
+take_wrapper-requires-clause-at_bound c =
+    let eight = eight_records c.args.table _ c.well_formed.0 in
+    let t = steps _ _ _ _ _ _ c.asks.ensures _ _ c.in-Wrapper.is c.requires.table_value in
+    (omega (arith, t.within), t.used, t.well)
+
+pub take_wrapper-requires-clause-len_value : goal.take_wrapper-requires-clause-len_value
+take_wrapper-requires-clause-len_value c =
+    let t = steps _ _ _ _ _ _ c.asks.ensures _ _ c.in-Wrapper.is c.requires.table_value in
+    (rw (behind_fields c.args.body.now) t.len, t.fits)
+
+pub returns-in-Refused : goal.returns-in-Refused
+returns-in-Refused c =
+    let a = c.args in
+    let out = asks_for _ _ _ _ _ _ c.asks.ensures a.held.now (contents a.body.now) a.reciprocal _ c.in-Refused.is in
+    answers_as _ _ _ _ _ _ _ _ out (refused_answers _ _ _ _ _ _ c.refuse.ensures)
+
+pub returns-in-Join : goal.returns-in-Join
+returns-in-Join c =
+    let a = c.args in
+    let out = asks_for _ _ _ _ _ _ c.asks.ensures a.held.now (contents a.body.now) a.reciprocal _ c.in-Join.is in
+    answers_as _ _ _ _ _ _ _ _ out (join_answers a.table _ _ a.reply.now _ _ _ a.reciprocal _ c.take_join.ensures)
+
+pub returns-in-Wrapper : goal.returns-in-Wrapper
+returns-in-Wrapper c =
+    let a = c.args in
+    let out = asks_for _ _ _ _ _ _ c.asks.ensures a.held.now (contents a.body.now) a.reciprocal _ c.in-Wrapper.is in
+    answers_as _ _ _ _ _ _ _ _ out (rw (behind_fields a.body.now) at c.take_wrapper.ensures)
