@@ -7,10 +7,11 @@ use case_rooms::judging::{close_step, take_expected};
 use case_rooms::lent::{HELD, clear_held};
 use case_rows::{ROWS, clear};
 use case_stream::report::{
-    LINE, OUT, State, close_case, fail_reading, fail_with, keep, lent_right, more, pass_on,
+    LINE, OUT, Reports, State, close_case, fail_reading, fail_with, keep, lent_right, more, pass_on,
 };
 use case_stream::source::Turn;
 use case_text::{Word, is_same, octets_of, part, peek, put, trimmed_end, word_at};
+use std::io;
 
 // A case is open from its first line that is no comment.
 fn with_case(state: State) -> State {
@@ -21,18 +22,20 @@ fn with_case(state: State) -> State {
 
 // The lines under the step above are over, and another line stands in the file.
 fn begin_line(
+    rt: &impl Reports,
     line: &[u8],
     said: &[u8; SAID],
     name: &[u8; LINE],
     out: &mut [u8; OUT],
     state: State,
-) -> State {
-    let closed = close_step(said, name, out, state);
-    keep(line, out, with_case(closed))
+) -> io::Result<State> {
+    let closed = close_step(rt, said, name, out, state)?;
+    keep(rt, line, out, with_case(closed))
 }
 
 // A line that is no comment, no case and no expectation, unless its case has failed. Its first word is w.
 fn run_line(
+    rt: &impl Reports,
     line: &[u8],
     w: Word,
     rows: &mut [u64; ROWS],
@@ -42,19 +45,20 @@ fn run_line(
     name: &[u8; LINE],
     out: &mut [u8; OUT],
     state: State,
-) -> State {
-    let st = begin_line(line, said, name, out, state);
+) -> io::Result<State> {
+    let st = begin_line(rt, line, said, name, out, state)?;
     if st.broken {
-        return st;
+        return Ok(st);
     }
     let mut values = [0u64; VALUES];
     let kind = line_kind(line, w);
     let spot = read_line(kind, line, w, &mut values, octets, said);
     if !spot.ok {
         let expected = part(said, 0, spot.said);
-        return fail_reading(line, spot.at, expected, name, out, st);
+        return fail_reading(rt, line, spot.at, expected, name, out, st);
     }
     take_read(
+        rt,
         kind,
         spot.octets,
         rows,
@@ -100,13 +104,20 @@ fn with_name(state: State, len: usize) -> State {
 }
 
 // The end of a case.
-pub fn take_end(said: &[u8; SAID], name: &[u8; LINE], out: &mut [u8; OUT], state: State) -> State {
-    let st = close_step(said, name, out, state);
-    close_case(name, out, st)
+pub fn take_end(
+    rt: &impl Reports,
+    said: &[u8; SAID],
+    name: &[u8; LINE],
+    out: &mut [u8; OUT],
+    state: State,
+) -> io::Result<State> {
+    let st = close_step(rt, said, name, out, state)?;
+    close_case(rt, name, out, st)
 }
 
 // A new case: its name is the rest of the line from `from` on.
 fn open_case(
+    rt: &impl Reports,
     line: &[u8],
     from: usize,
     rows: &mut [u64; ROWS],
@@ -116,17 +127,23 @@ fn open_case(
     name: &mut [u8; LINE],
     out: &mut [u8; OUT],
     state: State,
-) -> State {
-    let closed = take_end(said, name, out, state);
+) -> io::Result<State> {
+    let closed = take_end(rt, said, name, out, state)?;
     start_case(rows, held, octets);
     let len = keep_name(line, from, name);
-    keep(line, out, with_name(closed, len))
+    keep(rt, line, out, with_name(closed, len))
 }
 
 // ---- lines
 
-fn fail_long(name: &[u8; LINE], out: &mut [u8; OUT], state: State) -> State {
+fn fail_long(
+    rt: &impl Reports,
+    name: &[u8; LINE],
+    out: &mut [u8; OUT],
+    state: State,
+) -> io::Result<State> {
     fail_with(
+        rt,
         name,
         out,
         state,
@@ -138,22 +155,23 @@ fn fail_long(name: &[u8; LINE], out: &mut [u8; OUT], state: State) -> State {
 
 // The end of a line that is too long.
 fn take_long_line(
+    rt: &impl Reports,
     end: &[u8],
     said: &[u8; SAID],
     name: &[u8; LINE],
     out: &mut [u8; OUT],
     state: State,
-) -> State {
-    let kept = keep(end, out, state);
-    let closed = close_step(said, name, out, kept);
+) -> io::Result<State> {
+    let kept = keep(rt, end, out, state)?;
+    let closed = close_step(rt, said, name, out, kept)?;
     if closed.broken {
-        return closed;
+        return Ok(closed);
     }
-    fail_long(name, out, closed)
+    fail_long(rt, name, out, closed)
 }
 
 // What a turn of the source found: a piece or the end of a line that is too long, or a line, by its first word.
-#[derive(Drop)]
+#[derive(Clone, Copy)]
 enum Found {
     Nothing,
     Piece,
@@ -211,6 +229,7 @@ fn counted(turn: Turn, state: State) -> State {
 
 // What one turn of the source found, without its end.
 pub fn take_turn(
+    rt: &impl Reports,
     turn: Turn,
     line: &[u8],
     rows: &mut [u64; ROWS],
@@ -220,16 +239,16 @@ pub fn take_turn(
     name: &mut [u8; LINE],
     out: &mut [u8; OUT],
     state: State,
-) -> State {
+) -> io::Result<State> {
     let st = counted(turn, state);
     let w = word_at(line, 0);
     match found_by(turn, line, w) {
-        Found::Nothing => st,
-        Found::Piece => pass_on(line, out, st),
-        Found::LongEnd => take_long_line(line, said, name, out, st),
-        Found::Comment => keep(line, out, st),
-        Found::Expected => take_expected(line, w.from, said, name, out, st),
-        Found::Case => open_case(line, w.to, rows, held, octets, said, name, out, st),
-        Found::Other => run_line(line, w, rows, held, octets, said, name, out, st),
+        Found::Nothing => Ok(st),
+        Found::Piece => pass_on(rt, line, out, st),
+        Found::LongEnd => take_long_line(rt, line, said, name, out, st),
+        Found::Comment => keep(rt, line, out, st),
+        Found::Expected => take_expected(rt, line, w.from, said, name, out, st),
+        Found::Case => open_case(rt, line, w.to, rows, held, octets, said, name, out, st),
+        Found::Other => run_line(rt, line, w, rows, held, octets, said, name, out, st),
     }
 }

@@ -8,23 +8,30 @@ mod steps;
 use case_forms::{OCTETS, SAID};
 use case_rooms::lent::HELD;
 use case_rows::ROWS;
-use case_stream::report::{LINE, OUT, State, first_state, flush, tally};
+use case_stream::report::{LINE, OUT, Reports, State, first_state, flush, tally};
 use case_stream::source::{BUFFER, Source, Turn, first_source, turn_on};
-use case_text::{is_same, part};
-use libc::STDERR_FILENO;
+use case_text::{is_same, next, part};
 use lines::{take_end, take_turn};
+use std::env::FillError;
+use std::io::Read;
+use std::rt::{Env, Files};
+use std::{fs, io, str};
+
+// A word of the command line that is longer is not read; so long is the longest path.
+const WORD: usize = 4096;
 
 // Whether the input goes on.
 fn goes_on(turn: Turn) -> bool {
     match turn {
-        Turn::End | Turn::Wrong => false,
+        Turn::End | Turn::Wrong(_) => false,
         _ => true,
     }
 }
 
 // Reads to the end of the input, a turn at a time, and reports every case.
 fn run_turns(
-    fd: i32,
+    rt: &(impl Reports + Alloc),
+    input: &mut impl Read,
     first: State,
     buffer: &mut [u8; BUFFER],
     rows: &mut [u64; ROWS],
@@ -33,26 +40,26 @@ fn run_turns(
     said: &mut [u8; SAID],
     name: &mut [u8; LINE],
     out: &mut [u8; OUT],
-) {
+) -> io::Result<()> {
     let mut state = first;
     let mut source = first_source();
     let mut turns = u64::MAX;
     while 0 < turns {
-        source = turn_on(fd, buffer, source);
+        source = turn_on(input, buffer, source);
         let turn = source.turn;
         if !goes_on(turn) {
             break;
         }
         let line = found_line(buffer, source);
-        state = take_turn(turn, line, rows, held, octets, said, name, out, state);
+        state = take_turn(rt, turn, line, rows, held, octets, said, name, out, state)?;
         turns -= 1;
     }
     let turn = source.turn;
-    finish(turn, said, name, out, state);
+    finish(rt, turn, said, name, out, state)
 }
 
 // All that is kept lies in these arrays, which the functions are lent, since a struct that held them would be copied at each call.
-fn run_all(fd: i32, show: bool) {
+fn run_all(rt: &(impl Reports + Alloc), input: &mut impl Read, show: bool) -> io::Result<()> {
     let mut buffer = [0u8; BUFFER];
     let mut rows = [0u64; ROWS];
     let mut held = [0u8; HELD];
@@ -61,7 +68,8 @@ fn run_all(fd: i32, show: bool) {
     let mut name = [0u8; LINE];
     let mut out = [0u8; OUT];
     run_turns(
-        fd,
+        rt,
+        input,
         first_state(show),
         &mut buffer,
         &mut rows,
@@ -70,7 +78,7 @@ fn run_all(fd: i32, show: bool) {
         &mut said,
         &mut name,
         &mut out,
-    );
+    )
 }
 
 fn found_line(buffer: &[u8; BUFFER], source: Source) -> &[u8] {
@@ -78,59 +86,108 @@ fn found_line(buffer: &[u8; BUFFER], source: Source) -> &[u8] {
 }
 
 // The report ends with the tally, unless the input could not be read to its end.
-fn finish(turn: Turn, said: &[u8; SAID], name: &[u8; LINE], out: &mut [u8; OUT], state: State) {
-    if let Turn::Wrong = turn {
-        flush(out, state.out);
-        os::fail(b"cases: the input cannot be read");
-        return;
+fn finish(
+    rt: &(impl Reports + Alloc),
+    turn: Turn,
+    said: &[u8; SAID],
+    name: &[u8; LINE],
+    out: &mut [u8; OUT],
+    state: State,
+) -> io::Result<()> {
+    if let Turn::Wrong(error) = turn {
+        flush(rt, out, state.out)?;
+        return fail(rt, b"cases: the input cannot be read", error);
     }
-    let closed = take_end(said, name, out, state);
-    let last = tally(out, closed);
-    flush(out, last.out);
+    let closed = take_end(rt, said, name, out, state)?;
+    let last = tally(rt, out, closed)?;
+    flush(rt, out, last.out)
+}
+
+// The system's words for an error, without its number.
+fn reason(text: &str) -> &str {
+    match text.split_once(" (os error ") {
+        Some((reason, _)) => reason,
+        None => text,
+    }
+}
+
+// Writes a line to standard error: what failed, and why.
+fn fail(rt: &(impl Reports + Alloc), what: &[u8], error: io::Error) -> io::Result<()> {
+    let text = format!(in rt.alloc(); "{error}")?;
+    rt.complain(what)?;
+    rt.complain(b": ")?;
+    rt.complain(reason(text.as_str()).as_bytes())?;
+    rt.complain(b"\n")
+}
+
+// Runs the file of this name, which must be text.
+fn run_named<R: Reports + Files + Alloc>(rt: &R, path: &[u8], show: bool) -> io::Result<()> {
+    let Ok(name) = str::from_utf8(path) else {
+        let error = io::Error::from(io::ErrorKind::InvalidFilename);
+        return fail(rt, b"cases: the file's name", error);
+    };
+    match fs::open(rt, name) {
+        Ok(mut file) => run_all(rt, &mut file, show),
+        Err(error) => {
+            rt.complain(b"cases: ")?;
+            fail(rt, path, error)
+        }
+    }
+}
+
+// An argument is missing or too long, as the system's errors of these numbers say.
+fn unread(error: FillError) -> io::Error {
+    match error {
+        FillError::NotPresent => io::Error::from_raw_os_error(22),
+        FillError::TooLong => io::Error::from_raw_os_error(36),
+    }
 }
 
 // Runs the file that argument i names.
-fn run_file(i: usize, show: bool) {
-    let mut path = io::buffer();
-    let length = os::arg(i, &mut path);
-    if os::errno() != 0 {
-        os::fail(b"cases: the file's name");
-        return;
+fn run_file<R: Reports + Files + Env + Alloc>(rt: &R, i: usize, show: bool) -> io::Result<()> {
+    let mut word = [0u8; WORD];
+    match rt.arg(i, &mut word) {
+        Ok(length) => run_named(rt, part(&word, 0, length), show),
+        Err(error) => fail(rt, b"cases: the file's name", unread(error)),
     }
-    let fd = os::open_read(&path[..length]);
-    if fd < 0 {
-        io::write_all(STDERR_FILENO, b"cases: ");
-        os::fail(&path[..length]);
-        return;
-    }
-    run_all(fd, show);
-    libc::close(fd);
 }
 
 // Whether the first argument is `show`.
-fn is_show() -> bool {
-    let mut word = io::buffer();
-    let length = os::arg(1, &mut word);
-    is_same(&word[..length], b"show")
+fn is_show(rt: &impl Env) -> bool {
+    let mut word = [0u8; WORD];
+    match rt.arg(1, &mut word) {
+        Ok(length) => is_same(part(&word, 0, length), b"show"),
+        Err(_) => false,
+    }
 }
 
-fn run_argument(i: usize, show: bool) {
-    let count = os::arg_count();
-    if count <= i {
-        run_all(0, show);
-        return;
+// Whether there is an argument i.
+fn has_argument(rt: &impl Env, i: usize) -> bool {
+    match rt.arg(i, &mut []) {
+        Err(FillError::NotPresent) => false,
+        _ => true,
     }
-    if count != i + 1 {
-        io::write_all(STDERR_FILENO, b"usage: cases [show] [FILE]\n");
-        return;
-    }
-    run_file(i, show);
 }
 
-fn main() {
-    if is_show() {
-        run_argument(2, true);
+fn run_argument<R: Reports + Input + Files + Env + Alloc>(
+    rt: &R,
+    i: usize,
+    show: bool,
+) -> io::Result<()> {
+    if !has_argument(rt, i) {
+        let mut input = rt.reader();
+        return run_all(rt, &mut input, show);
+    }
+    if has_argument(rt, next(i)) {
+        return rt.complain(b"usage: cases [show] [FILE]\n");
+    }
+    run_file(rt, i, show)
+}
+
+fn main(rt: HostRuntime) -> io::Result<()> {
+    if is_show(&rt) {
+        run_argument(&rt, 2, true)
     } else {
-        run_argument(1, false);
+        run_argument(&rt, 1, false)
     }
 }

@@ -8,8 +8,9 @@ use case_rooms::judging::judge_step;
 use case_rooms::lent::HELD;
 use case_rooms::setting::set_up;
 use case_rows::ROWS;
-use case_stream::report::{LINE, Lent, OUT, State, fail, lend, lent_right, tell};
+use case_stream::report::{LINE, Lent, OUT, Reports, State, fail, lend, lent_right, tell};
 use case_text::{copy_within, less};
+use std::io;
 
 fn set_ours(octets: &mut [u8; OCTETS], end: usize, state: State) -> State {
     let len = less(end, OURS_MOST);
@@ -48,9 +49,15 @@ fn lacks_table(kind: u8, lent: Lent) -> bool {
     lent.table != 8
 }
 
-fn fail_table(name: &[u8; LINE], out: &mut [u8; OUT], state: State) -> State {
-    let st = fail(name, out, state, state.line);
+fn fail_table(
+    rt: &impl Reports,
+    name: &[u8; LINE],
+    out: &mut [u8; OUT],
+    state: State,
+) -> io::Result<State> {
+    let st = fail(rt, name, out, state, state.line)?;
     tell(
+        rt,
         out,
         st,
         b"     a table of another number of records than 8 cannot be lent yet\n",
@@ -86,6 +93,7 @@ fn with_step(state: State, said: usize) -> State {
 }
 
 fn take_step(
+    rt: &impl Reports,
     kind: u8,
     end: usize,
     rows: &mut [u64; ROWS],
@@ -96,20 +104,21 @@ fn take_step(
     name: &[u8; LINE],
     out: &mut [u8; OUT],
     state: State,
-) -> State {
+) -> io::Result<State> {
     let lent = state.lent;
     if lacks_table(kind, lent) {
-        return fail_table(name, out, state);
+        return fail_table(rt, name, out, state);
     }
     let ran = run_step(
         kind, rows, held, lent, values, octets, end, state.ours, said,
     );
     let fault = ran.fault;
-    judge_step(fault, said, name, out, with_step(state, ran.said))
+    judge_step(rt, fault, said, name, out, with_step(state, ran.said))
 }
 
 // Takes a line that was read: its kind, its values, and its octets up to their end.
 pub fn take_read(
+    rt: &impl Reports,
     kind: u8,
     end: usize,
     rows: &mut [u64; ROWS],
@@ -120,13 +129,13 @@ pub fn take_read(
     name: &[u8; LINE],
     out: &mut [u8; OUT],
     state: State,
-) -> State {
+) -> io::Result<State> {
     match kind {
-        OURS => set_ours(octets, end, state),
-        RECORD..=PLACE => set_table(kind, rows, held, values, octets, end, state),
-        LEND => set_lent(values, state),
+        OURS => Ok(set_ours(octets, end, state)),
+        RECORD..=PLACE => Ok(set_table(kind, rows, held, values, octets, end, state)),
+        LEND => Ok(set_lent(values, state)),
         _ => take_step(
-            kind, end, rows, held, values, octets, said, name, out, state,
+            rt, kind, end, rows, held, values, octets, said, name, out, state,
         ),
     }
 }
