@@ -16,7 +16,7 @@ use case_text::{Number, part, plus};
 use lent::{ROOM, wipe};
 
 // A piece whose octets a call may write.
-#[derive(Drop)]
+#[derive(Clone, Copy)]
 pub enum Piece {
     Held,
     Deliver,
@@ -26,14 +26,14 @@ pub enum Piece {
 }
 
 // Whether a step changed an octet that its answer does not name, and the place of the first such.
-#[derive(Drop)]
+#[derive(Clone, Copy)]
 pub enum Fault {
     Nothing,
     Changed(Piece, usize),
 }
 
 // What a step gave: the end of the lines that say it, and whether an octet was changed beyond it.
-#[derive(Drop)]
+#[derive(Clone, Copy)]
 pub struct Ran {
     pub said: usize,
     pub fault: Fault,
