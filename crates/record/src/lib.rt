@@ -148,6 +148,7 @@ fn are_apart(p: Place, q: Place) -> bool
 }
 
 // The phase fits the record's numbers.
+#[tactic(auto, using(crate::proofs::Leaves::phases), unfolding(crate::specs::Profile::max_retries))]
 fn gap_right(gap: Gap, shut: bool, terms: Terms) -> bool
     ensures { result ≡ gap_right gap shut terms }
 {
