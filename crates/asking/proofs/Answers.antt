@@ -27,20 +27,20 @@ use Rattle.asking.specs.declared.Asked.TheVariants as asked
 -- ---- a wrapper
 
 module _ (ts : List Record) (s : Cid) (b : Bool) (w : Wrapper) (n : ℕ) (f : Found) (e : f ≡ found 0 s w.channel ts) where
-  pub wrapper-unknown : f ≡ Nowhere → asked.Refused 6 ≡ wrapper_asks ts s b w n
+  pub wrapper_unknown : f ≡ Nowhere → asked.Refused 6 ≡ wrapper_asks ts s b w n
   unfolding wrapper_asks
-  wrapper-unknown u = rw (← e, u)
+  wrapper_unknown u = rw (← e, u)
 
   module _ (i : ℕ) (u : f ≡ At i) where
     pub wrapper_long : most_contents < n → asked.Refused 7 ≡ wrapper_asks ts s b w n
     unfolding wrapper_asks
     wrapper_long h = rw (← e, u, lt-ltb most_contents n h)
 
-    pub wrapper-fits : n ≤ most_contents → (a : Arrived) → a ≡ arrived_of b w n → asked.Wrapper i a ≡ wrapper_asks ts s b w n
+    pub wrapper_fits : n ≤ most_contents → (a : Arrived) → a ≡ arrived_of b w n → asked.Wrapper i a ≡ wrapper_asks ts s b w n
     unfolding wrapper_asks
-    wrapper-fits h a q = rw (← e, u, le-ltb most_contents n h, q)
+    wrapper_fits h a q = rw (← e, u, le-ltb most_contents n h, q)
 
-pub ruleset wrappers = (wrapper-unknown, wrapper_long, wrapper-fits)
+pub ruleset wrappers = (wrapper_unknown, wrapper_long, wrapper_fits)
 
 -- ---- a Join
 
@@ -49,55 +49,55 @@ module _ (o : Cid) (j : Join) (b : Bool) (e : b ≡ same j.cid o) where
   unfolding join_asks
   join_other t = rw (← e, not-true b t)
 
-  pub join-ours : not b ≡ false → asked.Join j ≡ join_asks o j
+  pub join_ours : not b ≡ false → asked.Join j ≡ join_asks o j
   unfolding join_asks
-  join-ours t = rw (← e, not-false b t)
+  join_ours t = rw (← e, not-false b t)
 
-pub ruleset joins = (join_other, join-ours)
+pub ruleset joins = (join_other, join_ours)
 
 -- ---- a message
 
 module _ (ts : List Record) (s o : Cid) where
   -- a message that is neither a wrapper nor a Join nor an ACK
-  other-asks : (m : Message) (n : ℕ) → ((w : Wrapper) → m ≡ message.ReliableWrapper w → ⊥) → ((w : Wrapper) → m ≡ message.UnreliableWrapper w → ⊥)
+  other_asks : (m : Message) (n : ℕ) → ((w : Wrapper) → m ≡ message.ReliableWrapper w → ⊥) → ((w : Wrapper) → m ≡ message.UnreliableWrapper w → ⊥)
       → ((j : Join) → m ≡ message.Join j → ⊥) → ((r : Reliable) → m ≡ message.Ack r → ⊥) → asked.Refused 5 ≡ message_asks ts s o m n
-  other-asks (message.ReliableWrapper w) n a b c d = absurd (a w refl)
-  other-asks (message.UnreliableWrapper w) n a b c d = absurd (b w refl)
-  other-asks (message.Join j) n a b c d = absurd (c j refl)
-  other-asks (message.JoinRefuse m reason) n a b c d = refl
-  other-asks (message.JoinAccept m reciprocal) n a b c d = refl
-  other-asks (message.Leaving m reason) n a b c d = refl
-  other-asks (message.Ack r) n a b c d = absurd (d r refl)
-  other-asks (message.Nak m first last) n a b c d = refl
-  other-asks (message.GetSessions cid) n a b c d = refl
+  other_asks (message.ReliableWrapper w) n a b c d = absurd (a w refl)
+  other_asks (message.UnreliableWrapper w) n a b c d = absurd (b w refl)
+  other_asks (message.Join j) n a b c d = absurd (c j refl)
+  other_asks (message.JoinRefuse m reason) n a b c d = refl
+  other_asks (message.JoinAccept m reciprocal) n a b c d = refl
+  other_asks (message.Leaving m reason) n a b c d = refl
+  other_asks (message.Ack r) n a b c d = absurd (d r refl)
+  other_asks (message.Nak m first last) n a b c d = refl
+  other_asks (message.GetSessions cid) n a b c d = refl
 
   module _ (v : ℕ) (d : List ℕ) where
     module _ (r : MessageRead) (e : r ≡ read_message v d) where
-      pub asks-unreadable : r ≡ Unreadable → asked.Refused 4 ≡ asked_of ts s o v d
+      pub asks_unreadable : r ≡ Unreadable → asked.Refused 4 ≡ asked_of ts s o v d
       unfolding asked_of
-      asks-unreadable f = rw (← e, f)
+      asks_unreadable f = rw (← e, f)
 
       module _ (m : Message) (f : r ≡ Read m) where
         asks_read : asked_of ts s o v d ≡ message_asks ts s o m (length d - 20)
         unfolding asked_of
         asks_read = rw (← e, f, length-drop 20 d)
 
-        pub asks-reliable : (w : Wrapper) → m ≡ message.ReliableWrapper w → (a : Asked) → a ≡ wrapper_asks ts s true w (length d - 20)
+        pub asks_reliable : (w : Wrapper) → m ≡ message.ReliableWrapper w → (a : Asked) → a ≡ wrapper_asks ts s true w (length d - 20)
             → a ≡ asked_of ts s o v d
-        asks-reliable w g a h = rw (asks_read, g, h)
+        asks_reliable w g a h = rw (asks_read, g, h)
 
-        pub asks-unreliable : (w : Wrapper) → m ≡ message.UnreliableWrapper w → (a : Asked) → a ≡ wrapper_asks ts s false w (length d - 20)
+        pub asks_unreliable : (w : Wrapper) → m ≡ message.UnreliableWrapper w → (a : Asked) → a ≡ wrapper_asks ts s false w (length d - 20)
             → a ≡ asked_of ts s o v d
-        asks-unreliable w g a h = rw (asks_read, g, h)
+        asks_unreliable w g a h = rw (asks_read, g, h)
 
         pub asks_join : (j : Join) → m ≡ message.Join j → (a : Asked) → a ≡ join_asks o j → a ≡ asked_of ts s o v d
         asks_join j g a h = rw (asks_read, g, h)
 
-        pub asks-ack : (r : Reliable) → m ≡ message.Ack r → asked.Refused 4 ≡ asked_of ts s o v d
-        asks-ack r g = rw (asks_read, g)
+        pub asks_ack : (r : Reliable) → m ≡ message.Ack r → asked.Refused 4 ≡ asked_of ts s o v d
+        asks_ack r g = rw (asks_read, g)
 
-        pub asks-other : ((w : Wrapper) → m ≡ message.ReliableWrapper w → ⊥) → ((w : Wrapper) → m ≡ message.UnreliableWrapper w → ⊥)
+        pub asks_other : ((w : Wrapper) → m ≡ message.ReliableWrapper w → ⊥) → ((w : Wrapper) → m ≡ message.UnreliableWrapper w → ⊥)
             → ((j : Join) → m ≡ message.Join j → ⊥) → ((r : Reliable) → m ≡ message.Ack r → ⊥) → asked.Refused 5 ≡ asked_of ts s o v d
-        asks-other a b c k = rw asks_read (other-asks m (length d - 20) a b c k)
+        asks_other a b c k = rw asks_read (other_asks m (length d - 20) a b c k)
 
-pub ruleset messages = (asks-unreadable, asks-reliable, asks-unreliable, asks_join, asks-ack, asks-other)
+pub ruleset messages = (asks_unreadable, asks_reliable, asks_unreliable, asks_join, asks_ack, asks_other)

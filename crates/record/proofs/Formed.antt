@@ -195,23 +195,23 @@ free_formed r u = rw u
 pub formed : (r : Record) → well_formed r ≡ true → r.used ≡ true → Formed r
 unfolding well_formed terms_right closed
 formed r w u =
-    let to-idle = both _ _ (asked r.used _ w u) in
-    let to_gap = both _ _ to-idle.0 in
+    let to_idle = both _ _ (asked r.used _ w u) in
+    let to_gap = both _ _ to_idle.0 in
     let to_apart = both _ _ to_gap.0 in
     let to_held = both _ _ to_apart.0 in
-    let to-known = both _ _ to_held.0 in
-    let to-terms = both _ _ to-known.0 in
-    let to-legal = both _ _ to-terms.0 in
-    let known = ((at_least 0 r.reliable.0 r.known.0).0 to-known.1).1 in
+    let to_known = both _ _ to_held.0 in
+    let to_terms = both _ _ to_known.0 in
+    let to_legal = both _ _ to_terms.0 in
+    let known = ((at_least 0 r.reliable.0 r.known.0).0 to_known.1).1 in
     record {
-      legal_names = to-legal.0;
-      legal_parameters = to-legal.1;
-      reciprocal = not_zero _ to-terms.1;
+      legal_names = to_legal.0;
+      legal_parameters = to_legal.1;
+      reciprocal = not_zero _ to_terms.1;
       known = known;
       held = held_all r.reliable r.known known r.places to_held.1;
       apart = apart_all r.places to_apart.1;
       gap = phase_is _ _ _ r.gap to_gap.1;
-      idle = ltb-true _ _ to-idle.1;
+      idle = ltb-true _ _ to_idle.1;
     }
 
 pub well_formed_lem : {r : Record} → Formed r → well_formed r ≡ true
