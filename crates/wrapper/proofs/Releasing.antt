@@ -1,6 +1,8 @@
 -- The leaves of step 4: the next held place, one release, and the releases one after the other. Assumes nothing.
 use Prim.Native.Nat.{ℕ, zero, suc, ◌+◌, ◌-◌, ◌<◌, ◌≤◌}
 use mathlib.Core.Bool.{Bool, true, false, not}
+use mathlib.Core.List.{[], ◌∷◌}
+use mathlib.Core.Logic.{⊎_elim}
 use mathlib.Core.Path.{◌≡◌, refl, sym, ◌∙◌}
 use native.Mathlib.Omega.{arith}
 use lib.Dec.{eqb, lit<}
@@ -8,6 +10,8 @@ use lib.IntN.{ℤ}
 use lib.ListN.{set}
 use mir.Syntax.{w32}
 use mir.Val.{of_z, SFits}
+use denote.Enum.Declared.{tag_of}
+use types.Run.{OneOf}
 use borrow.Author.Rules.{sfits_of}
 use borrow.Author.Tests.{not-true, not-false}
 use Rattle.counter.specs.Distance.{distance}
@@ -23,6 +27,7 @@ use Rattle.wrapper.specs.declared.Judged.TheVariants.{Old, Inconsistent, Fresh}
 use Rattle.wrapper.specs.declared.Search.{Search}
 use Rattle.wrapper.specs.declared.Search.TheVariants.{At, Nowhere}
 use Rattle.wrapper.specs.declared.Released.{Released}
+use Rattle.wrapper.specs.contracts.Judged.{the_type}
 use Rattle.wrapper.proofs.Holding.{bits_are}
 
 -- ---- a held one that is next
@@ -82,10 +87,10 @@ module _ (s : Released) (i : ℕ) (j : Judged) (e : j ≡ judged s.after true (h
     release_throws t = rw (← e, t, f)
 
 -- the arm of a `match` that takes all but `Fresh`
-pub other_than_fresh : (j : Judged) → (j ≡ Fresh → ⊥) → passes j ≡ false
+pub other_than_fresh : (j : Judged) → OneOf (0 ∷ 1 ∷ []) (tag_of the_type j) → passes j ≡ false
 other_than_fresh Old k = refl
 other_than_fresh Inconsistent k = refl
-other_than_fresh Fresh k = absurd (k refl)
+other_than_fresh Fresh k = absurd (⊎_elim (λ z. omega arith) (λ z. omega arith) k)
 
 pub ruleset releases = (release_delivers, release_throws, other_than_fresh)
 
