@@ -1,5 +1,5 @@
 -- Each answer is that of what the message asks.
-use Rattle.std.proofs.Common.{rules, arith}
+use Rattle.std.proofs.Common.{arith}
 use Rattle.message.specs.Reading.{contents}
 use Rattle.member.proofs.Wrapping.{eight_records}
 use Rattle.member.proofs.Messaging.{answers_as, refused_answers, join_answers, asks_for, steps, behind_fields}
