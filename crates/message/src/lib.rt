@@ -376,6 +376,7 @@ fn fixed_of(vector: u8, body: &[u8]) -> Message
 }
 
 // A readable message.
+#[inline(always)]
 fn message_of(vector: u8, body: &[u8]) -> Message
     requires { readable vector body.now ≡ true }
     ensures { result ≡ message_of vector body.now }
@@ -389,6 +390,7 @@ fn message_of(vector: u8, body: &[u8]) -> Message
 }
 
 // The message of this vector and data. A wrapper's contents are its data past the first 20 octets.
+#[inline(always)]
 pub fn read_message(vector: u8, body: &[u8]) -> MessageRead
     ensures { ReadMessageAllows vector body.now result }
 {

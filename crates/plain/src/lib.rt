@@ -282,6 +282,7 @@ fn join_of(p: Plain) -> Join
 }
 
 // The message that a struct of numbers is.
+#[inline(always)]
 pub fn typed_of(p: Plain) -> Typed
     ensures { result ≡ typed_of p }
 {

@@ -154,6 +154,7 @@ pub fn sdt_next_message(block: &[u8], cursor: Cursor) -> NextAnswer
 
 // Reads the message of this vector and data. Each kind returns by itself, so that its answer is written in place and no kind pays for
 // the fields of another.
+#[inline(always)]
 pub fn sdt_read_message(vector: u8, body: &[u8]) -> MessageAnswer
     ensures { SdtReadMessageAllows vector body.now result }
 {
@@ -298,6 +299,7 @@ fn write_answer(w: Wrote) -> WriteAnswer
 }
 
 // Writes a message at the front of the room, with contents if it is a wrapper.
+#[inline(always)]
 pub fn sdt_write_message(m: Plain, contents: &[u8], room: &mut [u8]) -> WriteAnswer
     ensures { SdtWriteMessageAllows m contents.now room.old (record { answer = result; room = room.new }) }
 {

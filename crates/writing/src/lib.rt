@@ -214,6 +214,7 @@ fn put_nak(room: &mut [u8], at: usize, m: Membership, first: u32, last: u32)
 }
 
 // A message's own fields; contents are not among them.
+#[inline(always)]
 fn put_fields(room: &mut [u8], at: usize, m: Message)
     requires { at + length (fields_of m) ≤ length room.old }
     ensures { room.new ≡ splice room.old at (fields_of m) }
@@ -257,6 +258,7 @@ fn carried(m: Message, len: usize) -> usize
 }
 
 // Writes a message at the front of the room, with contents if it is a wrapper. A refusal leaves the room as it was.
+#[inline(always)]
 pub fn write_message(m: Message, contents: &[u8], room: &mut [u8]) -> Wrote
     ensures { WriteMessageAllows m contents.now room.old (record { answer = result; room = room.new }) }
 {
