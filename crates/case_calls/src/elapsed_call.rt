@@ -11,7 +11,7 @@ use gap::Event;
 use member::Cell;
 
 // What an elapsed call answers besides the table.
-#[derive(Drop)]
+#[derive(Clone, Copy)]
 struct Ticked {
     number: u8,
     cells: [Cell; 8],

@@ -9,7 +9,7 @@ use case_stream::report::Lent;
 use case_text::part;
 
 // What a leave call answers besides the table.
-#[derive(Drop)]
+#[derive(Clone, Copy)]
 struct Parted {
     number: u8,
     reply: usize,

@@ -14,7 +14,7 @@ use member::Given;
 use wrapper::Fate;
 
 // What a message call answers besides the table.
-#[derive(Drop)]
+#[derive(Clone, Copy)]
 struct Sent {
     given: Given,
     deliveries: [Delivery; 5],
