@@ -1,14 +1,13 @@
 -- Refusal 1, refusal 2, or what the message asks.
-use Rattle.std.proofs.Common.{rules}
+use Rattle.std.proofs.Common.{◌≡◌, length, rules}
 use Rattle.member.proofs.Sizes.{sized}
-use Rattle.member.proofs.Wrapping.{eight_records}
 use Rattle.member.proofs.Messaging.{answers_as, refused_answers, sizes_refused, table_refused, call_asked}
 use Rattle.member.proofs.message.Goals as goal
 
 pub returns-then-not-message_sizes : goal.returns-then-not-message_sizes
 returns-then-not-message_sizes c =
     let a = c.args in
-    let eight = eight_records a.table _ c.well_formed.0 in
+    let eight : length a.table ≡ 8 = search rules in
     let refused = sizes_refused a.table a.held.now _ _ a.sender.now a.ours.now a.vector a.body.now a.reciprocal _ eight in
     let out = refused c.message_sizes.ensures (search rules) in
     answers_as _ _ _ _ _ _ _ _ out (refused_answers _ _ _ _ _ _ c.refuse.ensures)
@@ -16,7 +15,7 @@ returns-then-not-message_sizes c =
 pub returns-then-not-is_formed : goal.returns-then-not-is_formed
 returns-then-not-is_formed c =
     let a = c.args in
-    let eight = eight_records a.table _ c.well_formed.0 in
+    let eight : length a.table ≡ 8 = search rules in
     let refused = table_refused a.table a.held.now _ _ a.sender.now a.ours.now a.vector a.body.now a.reciprocal _ eight in
     let out = refused c.message_sizes.ensures (search rules) _ c.is_formed.ensures (search rules) in
     answers_as _ _ _ _ _ _ _ _ out (refused_answers _ _ _ _ _ _ c.refuse-then-not-is_formed.ensures)
@@ -35,7 +34,7 @@ take_message-requires-clause-held_len c =
 pub returns : goal.returns
 returns c =
     let a = c.args in
-    let eight = eight_records a.table _ c.well_formed.0 in
+    let eight : length a.table ≡ 8 = search rules in
     let asked = call_asked a.table a.held.now _ _ a.sender.now a.ours.now a.vector a.body.now a.reciprocal _ eight in
     let out = asked c.message_sizes.ensures (search rules) _ c.is_formed.ensures (search rules) in
     answers_as _ _ _ _ _ _ _ _ out (rw (c.cid_of-from.ensures, c.cid_of-own.ensures) at c.take_message.ensures)

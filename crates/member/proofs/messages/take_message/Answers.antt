@@ -1,7 +1,6 @@
 -- Each answer is that of what the message asks.
-use Rattle.std.proofs.Common.{arith}
+use Rattle.std.proofs.Common.{◌≡◌, length, arith, rules}
 use Rattle.message.specs.Reading.{contents}
-use Rattle.member.proofs.Wrapping.{eight_records}
 use Rattle.member.proofs.Messaging.{answers_as, refused_answers, join_answers, asks_for, steps, behind_fields}
 use Rattle.member.proofs.messages.take_message.Goals as goal
 
@@ -13,7 +12,7 @@ slice_bounds-take_wrapper-start c = (steps _ _ _ _ _ _ c.asks.ensures _ _ c.in-W
 
 pub take_wrapper-requires-clause-at_bound : goal.take_wrapper-requires-clause-at_bound
 take_wrapper-requires-clause-at_bound c =
-    let eight = eight_records c.args.table _ c.well_formed.0 in
+    let eight : length c.args.table ≡ 8 = search rules in
     let t = steps _ _ _ _ _ _ c.asks.ensures _ _ c.in-Wrapper.is c.requires.table_value in
     (omega (arith, t.within), t.used, t.well)
 
