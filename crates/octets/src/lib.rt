@@ -31,12 +31,13 @@ pub fn u32_at(s: &[u8], at: usize) -> u32
     high * 65536 + low
 }
 
+// The lower half is read first: in this order the compiler makes one load of the eight octets.
 pub fn u64_at(s: &[u8], at: usize) -> u64
     requires { at + 8 ≤ length s.now }
     ensures { result ≡ number_at s.now at 8 }
 {
-    let high = u32_at(s, at) as u64;
     let low = u32_at(s, at + 4) as u64;
+    let high = u32_at(s, at) as u64;
     high * 4294967296 + low
 }
 
