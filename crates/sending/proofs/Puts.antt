@@ -16,7 +16,7 @@ use Rattle.writing.specs.Allowed.{WriteEnds, WriteMessageAllows}
 use Rattle.writing.specs.declared.Wrote.{Wrote}
 use Rattle.writing.specs.declared.Wrote.TheVariants.{Octets, NoForm, NoRoom, ContentsOver}
 use Rattle.writing.proofs.Forms.{carried_within, contents_length}
-use Rattle.writing.proofs.Answers.{Answer, whole, answer-is}
+use Rattle.writing.proofs.Answers.{Answer, whole, answer_is}
 use Rattle.sending.specs.Sent.{Put, sent_of}
 
 count : Wrote → ℕ
@@ -31,14 +31,14 @@ module _ (m : Message) (r s : List ℕ) (w : Wrote) (asked : (has_form m ≡ tru
   all_fits = whole asked.0 asked.1 (omega (arith, contents_length m [], carried_within m 0 _ refl))
 
   answered : w ≡ Octets (length (sent_of m))
-  answered = ap (λ (n : WriteEnds). n.answer) e ∙ answer-is m [] r all_fits
+  answered = ap (λ (n : WriteEnds). n.answer) e ∙ answer_is m [] r all_fits
 
   -- so a number that is answered is the message's length
   pub all_written : (n : ℕ) → w ≡ Octets n → Put (sent_of m) n r s
   unfolding count room_after
   all_written n g = (
     ap count (sym g ∙ answered),
-    ap (λ (n : WriteEnds). n.room) e ∙ ap (λ (x : Wrote). leaves x m [] r) (answer-is m [] r all_fits),
+    ap (λ (n : WriteEnds). n.room) e ∙ ap (λ (x : Wrote). leaves x m [] r) (answer_is m [] r all_fits),
   )
 
   -- and nothing else is

@@ -30,15 +30,15 @@ module _ (m : Message) (c r : List ℕ) where
     whole : has_form m ≡ true → length (pdu_of m c) ≤ length r → length (contents_of m c) ≤ most_contents → Answer (Octets (length (pdu_of m c)))
 
   -- what it takes decides it
-  pub answer-is : {w : Wrote} → Answer w → wrote m c r ≡ w
+  pub answer_is : {w : Wrote} → Answer w → wrote m c r ≡ w
   unfolding wrote
-  answer-is (formless f) = rw f
-  answer-is (short f h) = rw (f, lt-ltb _ _ h)
-  answer-is (over f h o) = rw (f, le-ltb _ _ h, lt-ltb _ _ o)
-  answer-is (whole f h o) = rw (f, le-ltb _ _ h, le-ltb _ _ o)
+  answer_is (formless f) = rw f
+  answer_is (short f h) = rw (f, lt-ltb _ _ h)
+  answer_is (over f h o) = rw (f, le-ltb _ _ h, lt-ltb _ _ o)
+  answer_is (whole f h o) = rw (f, le-ltb _ _ h, le-ltb _ _ o)
 
   taken : {w : Wrote} → Answer w → Answer (wrote m c r)
-  taken a = rw (answer-is a) a
+  taken a = rw (answer_is a) a
 
   -- one of the four it always is
   pub answer : Answer (wrote m c r)
@@ -54,7 +54,7 @@ module _ (m : Message) (c r : List ℕ) where
   -- a call that gives one of them, and leaves in the room what belongs to it, does what is promised
   ends : {w x : Wrote} {s : List ℕ} → Answer w → x ≡ w → s ≡ leaves w m c r → WriteMessageAllows m c r (record { answer = x; room = s })
   unfolding room_after
-  ends a e l = rw (answer-is a, e, l)
+  ends a e l = rw (answer_is a, e, l)
 
   -- head, fields and contents, one right behind the other, are the PDU
   placed : (s t u : List ℕ) → length (pdu_of m c) ≤ length r
@@ -72,12 +72,12 @@ module _ (m : Message) (form : Form) (len : ℕ) (e : form ≡ form_of m) (l : l
   unfolding form_of
   told = rw (l, e) (listed m)
 
-  vector-is : form.vector ≡ vector_of m
+  vector_is : form.vector ≡ vector_of m
   unfolding form_of
-  vector-is = ap (λ (f : Form). f.vector) e
+  vector_is = ap (λ (f : Form). f.vector) e
 
-  pub no-form-answered : (c r : List ℕ) → len ≡ 0 → WriteMessageAllows m c r (record { answer = NoForm; room = r })
-  no-form-answered c r z = ends m c r (formless (none_listed (has_form m) len (length (fields_of m)) told z)) refl refl
+  pub no_form_answered : (c r : List ℕ) → len ≡ 0 → WriteMessageAllows m c r (record { answer = NoForm; room = r })
+  no_form_answered c r z = ends m c r (formless (none_listed (has_form m) len (length (fields_of m)) told z)) refl refl
 
   module _ (n : len ≡ 0 → ⊥) where
     formed : (has_form m ≡ true) × (len ≡ length (fields_of m))
@@ -90,22 +90,22 @@ module _ (m : Message) (form : Form) (len : ℕ) (e : form ≡ form_of m) (l : l
       size_is : 3 + len + more ≡ length (pdu_of m c)
       size_is = omega (arith, pdu_length m c, formed.1)
 
-      pub no-room-answered : length r < 3 + len + more → WriteMessageAllows m c r (record { answer = NoRoom; room = r })
-      no-room-answered h = ends m c r (short formed.0 (omega (arith, size_is))) refl refl
+      pub no_room_answered : length r < 3 + len + more → WriteMessageAllows m c r (record { answer = NoRoom; room = r })
+      no_room_answered h = ends m c r (short formed.0 (omega (arith, size_is))) refl refl
 
       module _ (h : 3 + len + more ≤ length r) where
-        pub over-answered : most_contents < more → WriteMessageAllows m c r (record { answer = ContentsOver; room = r })
-        over-answered o = ends m c r (over formed.0 (omega (arith, size_is)) (omega (arith, contents_length m c))) refl refl
+        pub over_answered : most_contents < more → WriteMessageAllows m c r (record { answer = ContentsOver; room = r })
+        over_answered o = ends m c r (over formed.0 (omega (arith, size_is)) (omega (arith, contents_length m c))) refl refl
 
         body_is : 3 + len + more ≡ 3 + length (fields_of m ++ contents_of m c)
         body_is = omega (arith, length-append (fields_of m) (contents_of m c), contents_length m c, formed.1)
 
         -- s, t and u are the room after the head, the fields and the contents
-        pub whole-answered : (s t u p : List ℕ) (size at : ℕ) → more ≤ most_contents → size ≡ 3 + len + more → at ≡ 3 + len → p ≡ take more c
+        pub whole_answered : (s t u p : List ℕ) (size at : ℕ) → more ≤ most_contents → size ≡ 3 + len + more → at ≡ 3 + len → p ≡ take more c
             → s ≡ splice r 0 (head size form.vector)
             → t ≡ splice s 3 (fields_of m)
             → u ≡ splice t at p
             → WriteMessageAllows m c r (record { answer = Octets size; room = u })
-        whole-answered s t u p size at o ze ae pe se te ue =
+        whole_answered s t u p size at o ze ae pe se te ue =
             ends m c r (whole formed.0 (omega (arith, size_is)) (omega (arith, contents_length m c))) (rw (ze, size_is))
-            (placed m c r s t u (omega (arith, size_is)) (rw (ze, body_is, vector-is) at se) te (rw (ae, pe, formed.1, k) at ue))
+            (placed m c r s t u (omega (arith, size_is)) (rw (ze, body_is, vector_is) at se) te (rw (ae, pe, formed.1, k) at ue))

@@ -14,7 +14,7 @@ use Rattle.message.specs.declared.Message.{Message}
 use Rattle.writing.specs.Writing.{has_form, contents_of, pdu_of, wrote, leaves, room_after}
 use Rattle.writing.specs.declared.Wrote.{Wrote}
 use Rattle.writing.specs.declared.Wrote.TheVariants.{Octets, NoForm, NoRoom, ContentsOver}
-use Rattle.writing.proofs.Answers.{Answer, formless, short, over, whole, answer-is, answer}
+use Rattle.writing.proofs.Answers.{Answer, formless, short, over, whole, answer_is, answer}
 
 -- all behind what is written at the front stays
 behind : (r ys : List ℕ) → drop (length ys) (splice r 0 ys) ≡ drop (length ys) r
@@ -27,21 +27,21 @@ module _ (m : Message) (c r : List ℕ) where
 
   -- 4 exactly if the message has no written form
   pub no_form : wrote m c r ≡ NoForm ↔ has_form m ≡ false
-  no_form = (λ e. why (given NoForm e), λ f. answer-is m c r (formless f))
+  no_form = (λ e. why (given NoForm e), λ f. answer_is m c r (formless f))
     where
       why : Answer m c r NoForm → has_form m ≡ false
       why (formless f) = f
 
   -- 1 exactly if it has one and the room is shorter than its PDU
   pub no_room : wrote m c r ≡ NoRoom ↔ (has_form m ≡ true) × (length r < length (pdu_of m c))
-  no_room = (λ e. why (given NoRoom e), λ f. answer-is m c r (short f.0 f.1))
+  no_room = (λ e. why (given NoRoom e), λ f. answer_is m c r (short f.0 f.1))
     where
       why : Answer m c r NoRoom → (has_form m ≡ true) × (length r < length (pdu_of m c))
       why (short f h) = (f, h)
 
   -- 7 exactly if neither 4 nor 1 is given and the contents are over 1,454
   pub contents_over : wrote m c r ≡ ContentsOver ↔ (has_form m ≡ true) × (length (pdu_of m c) ≤ length r) × (most_contents < length (contents_of m c))
-  contents_over = (λ e. why (given ContentsOver e), λ f. answer-is m c r (over f.0 f.1 f.2))
+  contents_over = (λ e. why (given ContentsOver e), λ f. answer_is m c r (over f.0 f.1 f.2))
     where
       why : Answer m c r ContentsOver → (has_form m ≡ true) × (length (pdu_of m c) ≤ length r) × (most_contents < length (contents_of m c))
       why (over f h o) = (f, h, o)

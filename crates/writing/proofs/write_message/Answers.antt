@@ -3,30 +3,30 @@
 use native.Mathlib.Nat.{sub-zero}
 use native.Mathlib.Omega.{arith}
 use Rattle.writing.proofs.Forms.{carried_within}
-use Rattle.writing.proofs.Answers.{no-form-answered, fields_fit, no-room-answered, over-answered, whole-answered}
+use Rattle.writing.proofs.Answers.{no_form_answered, fields_fit, no_room_answered, over_answered, whole_answered}
 use Rattle.writing.proofs.write_message.Goals as goal
 
 pub returns-then-len-eq0 : goal.returns-then-len-eq0
-returns-then-len-eq0 c = no-form-answered _ _ _ c.form_of-form.ensures c.length_of-len.ensures.0 _ _ (omega arith)
+returns-then-len-eq0 c = no_form_answered _ _ _ c.form_of-form.ensures c.length_of-len.ensures.0 _ _ (omega arith)
 
 pub returns-then-room-end : goal.returns-then-room-end
 returns-then-room-end c =
-    no-room-answered _ _ _ c.form_of-form.ensures c.length_of-len.ensures.0 c.if-len-eq0.false _ _ _ c.carried-more.ensures (omega arith)
+    no_room_answered _ _ _ c.form_of-form.ensures c.length_of-len.ensures.0 c.if-len-eq0.false _ _ _ c.carried-more.ensures (omega arith)
 
 pub returns-then-room-end-2 : goal.returns-then-room-end-2
 returns-then-room-end-2 c =
-    no-room-answered _ _ _ c.form_of-form.ensures c.length_of-len.ensures.0 c.if-len-eq0.false _ _ _ c.carried-more.ensures (omega arith)
+    no_room_answered _ _ _ c.form_of-form.ensures c.length_of-len.ensures.0 c.if-len-eq0.false _ _ _ c.carried-more.ensures (omega arith)
 
 pub returns-then-more-gt-MOST_CONTENTS : goal.returns-then-more-gt-MOST_CONTENTS
 returns-then-more-gt-MOST_CONTENTS c =
-    over-answered _ _ _ c.form_of-form.ensures c.length_of-len.ensures.0 c.if-len-eq0.false _ _ _ c.carried-more.ensures (omega arith) (omega arith)
+    over_answered _ _ _ c.form_of-form.ensures c.length_of-len.ensures.0 c.if-len-eq0.false _ _ _ c.carried-more.ensures (omega arith) (omega arith)
 
 pub put_fields-requires : goal.put_fields-requires
 put_fields-requires c = fields_fit _ _ _ c.form_of-form.ensures c.length_of-len.ensures.0 c.if-len-eq0.false _ (omega arith)
 
 pub returns : goal.returns
 returns c =
-    whole-answered _ _ _ c.form_of-form.ensures c.length_of-len.ensures.0 c.if-len-eq0.false _ _ _
+    whole_answered _ _ _ c.form_of-form.ensures c.length_of-len.ensures.0 c.if-len-eq0.false _ _ _
     c.carried-more.ensures (omega arith) _ _ _ _ _ _
     (omega arith) (omega arith) (omega arith) (search sub-zero)
     c.put_head.ensures c.put_fields.ensures c.copy_into.ensures
