@@ -218,6 +218,7 @@ pub fn sessions_plain(cid: Cid) -> Plain
     )
 }
 
+#[tactic(auto, using(crate::proofs::Arms::arms))]
 fn address_of(d: Destination, p: Parameters) -> Address
     ensures { result ≡ address_of d p }
 {
