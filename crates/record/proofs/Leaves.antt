@@ -106,24 +106,6 @@ module _ (r k : Reliable) (p : Place) where
 
 pub ruleset held = (held_free, held_near, held_past, held_contents_lem, sfits_of)
 
--- ---- two held wrappers
-
-module _ (p q : Place) where
-  pub apart_first_free : not p.used ≡ true → true ≡ apart p q
-  unfolding apart
-  apart_first_free u = rw (not-true p.used u)
-
-  module _ (u : not p.used ≡ false) where
-    pub apart_second_free : not q.used ≡ true → true ≡ apart p q
-    unfolding apart
-    apart_second_free v = rw (not-false p.used u, not-true q.used v)
-
-    pub apart_both : not q.used ≡ false → (t : Bool) → t ≡ eqb p.reliable.0 q.reliable.0 → not t ≡ apart p q
-    unfolding apart
-    apart_both v t e = rw (not-false p.used u, not-false q.used v, ← e)
-
-pub ruleset twos = (apart_first_free, apart_second_free, apart_both)
-
 -- ---- four places
 
 -- a list of four is its elements at 0 to 3, whatever is read past the end

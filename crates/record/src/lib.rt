@@ -8,7 +8,7 @@ ghost use Rattle.record.specs.Reasons.{leaving_reason};
 ghost use Rattle.record.specs.With.{freed, with_gap, free_place};
 ghost use Rattle.record.specs.WellFormed.{closed, held_right, apart, held_apart, held_all_right, gap_right, terms_right, well_formed};
 
-use counter::{Reliable, Total, reliable_distance, same_reliable};
+use counter::{Counter, Reliable, Total};
 use message::{Cid, MOST_CONTENTS};
 
 // The phase of a gap, with its time left in milliseconds and the number of NAKs sent.
@@ -121,30 +121,22 @@ fn held_right(reliable: Reliable, known: Reliable, p: Place) -> bool
     if !p.used {
         return true;
     }
-    let held = p.reliable;
-    let e = reliable_distance(reliable, held);
+    let e = reliable.distance_to(p.reliable);
     if e < 2 {
         return false;
     }
-    if reliable_distance(reliable, known) < e {
+    if reliable.distance_to(known) < e {
         return false;
     }
     (p.len as usize) <= MOST_CONTENTS
 }
 
 // Two places do not hold the same reliable number.
+#[tactic(auto, unfolding(crate::specs::WellFormed::apart))]
 fn are_apart(p: Place, q: Place) -> bool
     ensures { result ≡ apart p q }
 {
-    if !p.used {
-        return true;
-    }
-    if !q.used {
-        return true;
-    }
-    let a = p.reliable;
-    let b = q.reliable;
-    !same_reliable(a, b)
+    !(p.used && q.used && p.reliable == q.reliable)
 }
 
 // The phase fits the record's numbers.
@@ -182,9 +174,7 @@ fn gap_right(gap: Gap, shut: bool, terms: Terms) -> bool
 pub fn is_closed(r: Record) -> bool
     ensures { result ≡ closed r }
 {
-    let known = r.known;
-    let reliable = r.reliable;
-    same_reliable(known, reliable)
+    r.known == r.reliable
 }
 
 // Held numbers differ.
@@ -259,7 +249,7 @@ pub fn is_well_formed(r: Record) -> bool
     }
     let reliable = r.reliable;
     let known = r.known;
-    if reliable_distance(reliable, known) < 0 {
+    if reliable.distance_to(known) < 0 {
         return false;
     }
     let places = r.places;

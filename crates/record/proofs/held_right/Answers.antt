@@ -8,8 +8,8 @@ returns-then-not-p c = search held
 pub returns-then-e-lt2 : goal.returns-then-e-lt2
 returns-then-e-lt2 c = search held
 
-pub returns-then-reliable_distance-e : goal.returns-then-reliable_distance-e
-returns-then-reliable_distance-e c = search held
+pub returns-then-distance_to-e : goal.returns-then-distance_to-e
+returns-then-distance_to-e c = search held
 
 pub returns : goal.returns
 returns c = search held

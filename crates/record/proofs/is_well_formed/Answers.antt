@@ -8,8 +8,8 @@ returns-then-not-r c = search to_apart
 pub returns-then-not-terms_right : goal.returns-then-not-terms_right
 returns-then-not-terms_right c = search to_apart
 
-pub returns-then-reliable_distance-lt0 : goal.returns-then-reliable_distance-lt0
-returns-then-reliable_distance-lt0 c = search to_apart
+pub returns-then-distance_to-lt0 : goal.returns-then-distance_to-lt0
+returns-then-distance_to-lt0 c = search to_apart
 
 pub returns-then-not-held_all_right : goal.returns-then-not-held_all_right
 returns-then-not-held_all_right c = search to_apart
