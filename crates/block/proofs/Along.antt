@@ -7,25 +7,25 @@ use native.Mathlib.Omega.{arith}
 use lib.ListN.{length}
 use lib.Dec.{ltb}
 use borrow.Author.Tests.{ltb-true, ltb-false}
+use Rattle.std.specs.Prelude.{Option, Some, None, Ok, Err}
 use Rattle.block.specs.Pdu.{pdu_at}
-use Rattle.block.specs.Block.{Parsed, broken, messages, with, onward, parse_from}
+use Rattle.block.specs.Block.{Parsed, with, onward, parse_from}
 use Rattle.block.specs.declared.Found.{Found}
-use Rattle.block.specs.declared.Pdu.{Pdu}
-use Rattle.block.specs.declared.Pdu.TheVariants.{Whole, Bad}
-use Rattle.block.proofs.Whole.{whole_within}
+use Rattle.block.specs.declared.Whole.{Whole}
+use Rattle.block.proofs.Sound.{whole_within}
 
 module _
     (s : List ℕ)
     (P : ℕ → Found → Parsed → Type 0)
-    (ended : (at : ℕ) (before : Found) → length s ≤ at → P at before (messages []))
-    (bad : (at : ℕ) (before : Found) → at < length s → P at before (broken at))
-    (whole : (at : ℕ) (before m : Found) (next : ℕ) (rest : Parsed) → pdu_at s at before ≡ Whole m next → at < length s → P next m rest
-    → P at before (with m rest))
+    (ended : (at : ℕ) (before : Found) → length s ≤ at → P at before (Ok []))
+    (bad : (at : ℕ) (before : Found) → at < length s → P at before (Err at))
+    (whole : (at : ℕ) (before : Found) (w : Whole) (rest : Parsed) → pdu_at s at before ≡ Some w → at < length s → P w.next w.found rest
+    → P at before (with w.found rest))
   where
-    step : (at : ℕ) (before : Found) (rest : Found → ℕ → Parsed) (p : Pdu) → pdu_at s at before ≡ p → at < length s
+    step : (at : ℕ) (before : Found) (rest : Found → ℕ → Parsed) (p : Option Whole) → pdu_at s at before ≡ p → at < length s
         → ((m : Found) (next : ℕ) → at < next → P next m (rest m next)) → P at before (onward at p rest)
-    step at before rest Bad e h on = bad at before h
-    step at before rest (Whole m next) e h on = whole at before m next (rest m next) e h (on m next (whole_within s at before e).0)
+    step at before rest None e h on = bad at before h
+    step at before rest (Some w) e h on = whole at before w (rest w.found w.next) e h (on w.found w.next (whole_within s at before e).0)
 
     from : (k at : ℕ) (before : Found) (t : Bool) → ltb at (length s) ≡ t → length s ≤ at + k → P at before (parse_from k s at before)
     unfolding parse_from

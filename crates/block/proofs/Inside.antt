@@ -8,19 +8,19 @@ use native.Mathlib.Omega.{arith}
 use lib.ListN.{length, get_or}
 use lib.Dec.{ltb, leb, eqb, eqb-suc-zero}
 use borrow.Author.Tests.{ltb-false, leb-false, eqb-false, le-ltb, lt-leb, ne_eqb}
+use Rattle.std.specs.Prelude.{slice_get, Option, Some, None, Result, Ok, Err}
+use Rattle.refusal.specs.declared.Refusal.{Refusal}
+use Rattle.refusal.specs.declared.Refusal.TheVariants.{WrongSize, Malformed}
 use Rattle.block.specs.Pdu.{has_v, has_h, has_d, head_size, fields, size_at, lacks_flag, found_at, pdu_at}
-use Rattle.block.specs.Block.{most_block, nothing, Parsed, broken, messages, with, parse, message_at, asked, read_block}
+use Rattle.block.specs.Block.{most_block, nothing, Parsed, with, parse, asked, read_block}
 use Rattle.block.specs.Cursor.{astray, passed, next_message}
 use Rattle.block.specs.declared.Found.{Found}
 use Rattle.block.specs.declared.Cursor.{Cursor}
-use Rattle.block.specs.declared.Pdu.{Pdu}
-use Rattle.block.specs.declared.Pdu.TheVariants.{Whole, Bad}
-use Rattle.block.specs.declared.BlockRead.{BlockRead}
-use Rattle.block.specs.declared.BlockRead.TheVariants.{Message, Fewer, TooLong, Malformed}
-use Rattle.block.specs.declared.Next.{Next}
-use Rattle.block.specs.declared.Next.TheVariants as next
+use Rattle.block.specs.declared.Whole.{Whole}
+use Rattle.block.specs.declared.Following.{Following}
+use Rattle.block.specs.declared.Astray.{Astray}
 use Rattle.block.specs.Inside.{In, Before, Ahead}
-use Rattle.block.proofs.Whole.{neither, sound, whole_within}
+use Rattle.block.proofs.Sound.{neither, sound, whole_within}
 use Rattle.block.proofs.Along.{along}
 
 -- ---- one PDU
@@ -43,7 +43,7 @@ module _ (at head size : ℕ) (h : Bool) (before : Found) (lies : Before at befo
   body_in v false e own f = omega (arith, lies (later at (v && h && false) e (and-false (v && h))))
 
 -- the message of a whole PDU lies before the next PDU
-pub whole_in : (s : List ℕ) (at : ℕ) (before : Found) {m : Found} {next : ℕ} → pdu_at s at before ≡ Whole m next → Before at before → In next m
+pub whole_in : (s : List ℕ) (at : ℕ) (before : Found) {w : Whole} → pdu_at s at before ≡ Some w → Before at before → In w.next w.found
 unfolding lacks_flag found_at fields
 whole_in s at before e lies =
     let whole = sound s at before e in
@@ -56,50 +56,58 @@ whole_in s at before e lies =
 
 -- ---- by position
 
--- what an answer names lies in a block of this size
-abbrev Inside : ℕ → BlockRead → Type 0
-Inside size (Message m) = In size m
-Inside size Fewer = Unit
-Inside size TooLong = Unit
-Inside size (Malformed p) = p < size
+-- a message that there is lies in a block of this size
+abbrev MessageIn : ℕ → Option Found → Type 0
+MessageIn size (Some m) = In size m
+MessageIn size None = Unit
 
-with_inside : (size : ℕ) (m : Found) (rest : Parsed) → In size m → ((k : ℕ) → Inside size (asked k rest))
-    → (k : ℕ) → Inside size (asked k (with m rest))
-unfolding asked message_at
-with_inside size m (broken p) i on k = on k
-with_inside size m (messages ms) i on zero = i
-with_inside size m (messages ms) i on (suc k) = on k
+-- what a block says lies in a block of this size: each of its messages, or the place of the malformed PDU
+abbrev Inside : ℕ → Parsed → Type 0
+Inside size (Ok ms) = (k : ℕ) → MessageIn size (slice_get ms k)
+Inside size (Err p) = p < size
 
-asked_inside : (s : List ℕ) (k : ℕ) → Inside (length s) (asked k (parse s))
-unfolding parse asked message_at
-asked_inside s =
-    along s (λ at before p. Before at before → (k : ℕ) → Inside (length s) (asked k p))
+with_inside : (size : ℕ) (m : Found) (rest : Parsed) → In size m → Inside size rest → Inside size (with m rest)
+with_inside size m (Err p) i on = on
+with_inside size m (Ok ms) i on = elim [ zero ↦ i | suc k ↦ on k ]
+
+parsed_inside : (s : List ℕ) → Inside (length s) (parse s)
+unfolding parse
+parsed_inside s =
+    along s (λ at before p. Before at before → Inside (length s) p)
     (λ at before h lies k. tt)
-    (λ at before h lies k. h)
-    (λ at before m next rest e h on lies.
+    (λ at before h lies. h)
+    (λ at before w rest e h on lies.
     let i = whole_in s at before e lies in
-    let w = whole_within s at before e in
-    with_inside (length s) m rest (omega arith) (on (λ _. i)))
+    let o = whole_within s at before e in
+    with_inside (length s) w.found rest (omega arith) (on (λ _. i)))
     (length s)
     0
     nothing
     (omega arith)
     (λ h. absurd (omega arith))
 
-tested : (size : ℕ) (long : Bool) (r : BlockRead) → Inside size r → Inside size (cond long TooLong r)
-tested size true r i = tt
-tested size false r i = i
+-- what an answer names lies in a block of this size
+abbrev AnswerIn : ℕ → Result (Option Found) Refusal → Type 0
+AnswerIn size (Ok m) = MessageIn size m
+AnswerIn size (Err (Malformed p)) = p < size
+AnswerIn size (Err r) = Unit
 
-inside : (s : List ℕ) (position : ℕ) → Inside (length s) (read_block s position)
+answer_inside : (size position : ℕ) (long : Bool) (p : Parsed) → Inside size p → AnswerIn size (cond long (Err WrongSize) (asked position p))
+unfolding asked
+answer_inside size position true p i = tt
+answer_inside size position false (Ok ms) i = i position
+answer_inside size position false (Err p) i = i
+
+inside : (s : List ℕ) (position : ℕ) → AnswerIn (length s) (read_block s position)
 unfolding read_block
-inside s position = tested (length s) (ltb most_block (length s)) (asked position (parse s)) (asked_inside s position)
+inside s position = answer_inside (length s) position (ltb most_block (length s)) (parse s) (parsed_inside s)
 
 -- the places answered of a message are within the block
-pub read_inside : (s : List ℕ) (position : ℕ) {m : Found} → read_block s position ≡ Message m → In (length s) m
+pub read_inside : (s : List ℕ) (position : ℕ) {m : Found} → read_block s position ≡ Ok (Some m) → In (length s) m
 read_inside s position e = rw e at (inside s position)
 
 -- the place answered of the first malformed PDU is within the block
-pub bad_inside : (s : List ℕ) (position : ℕ) {p : ℕ} → read_block s position ≡ Malformed p → p < length s
+pub bad_inside : (s : List ℕ) (position : ℕ) {p : ℕ} → read_block s position ≡ Err (Malformed p) → p < length s
 bad_inside s position e = rw e at (inside s position)
 
 -- ---- from a cursor on
@@ -142,10 +150,14 @@ unfolding astray
 not_astray size c o =
     rw (le-ltb most_block size o.short, le-ltb size c.next o.within, lies_test c.next c.before o.lies)
 
+-- where the block does not end there, a PDU begins at such a cursor
+pub begins : (size : ℕ) (c : Cursor) → astray size c ≡ false → (c.next ≡ size → ⊥) → c.next < size
+begins size c e n = let o = own size c e in omega (arith, n, o.within)
+
 -- behind a whole PDU lies a cursor that is not astray again
-pub own_behind : (s : List ℕ) (c : Cursor) (m : Found) (n : ℕ) → pdu_at s c.next c.before ≡ Whole m n → Own (length s) c
-    → Own (length s) (record { next = n; before = m })
-own_behind s c m n e o =
+pub own_behind : (s : List ℕ) (c : Cursor) (w : Whole) → pdu_at s c.next c.before ≡ Some w → Own (length s) c
+    → Own (length s) (record { next = w.next; before = w.found })
+own_behind s c w e o =
     record {
       short = o.short;
       within = (whole_within s c.next c.before e).1;
@@ -153,30 +165,30 @@ own_behind s c m n e o =
     }
 
 -- what reading on from c answers
-abbrev Goes : List ℕ → Cursor → Next → Type 0
-Goes s c (next.Message m d) = Ahead s c m d
-Goes s c next.End = Unit
-Goes s c next.Astray = Unit
+abbrev Goes : List ℕ → Cursor → Result (Option Following) Astray → Type 0
+Goes s c (Ok (Some f)) = Ahead s c f.found f.cursor
+Goes s c (Ok None) = Unit
+Goes s c (Err e) = Unit
 
-goes : (s : List ℕ) (c : Cursor) (out ended : Bool) (p : Pdu) → astray (length s) c ≡ out → pdu_at s c.next c.before ≡ p
-    → Goes s c (cond out next.Astray (cond ended next.End (passed p)))
+goes : (s : List ℕ) (c : Cursor) (out ended : Bool) (p : Option Whole) → astray (length s) c ≡ out → pdu_at s c.next c.before ≡ p
+    → Goes s c (cond out (Err (record {})) (cond ended (Ok None) (passed p)))
 goes s c true ended p a e = tt
 goes s c false true p a e = tt
-goes s c false false Bad a e = tt
-goes s c false false (Whole m n) a e =
+goes s c false false None a e = tt
+goes s c false false (Some w) a e =
     let o = own (length s) c a in
-    let w = whole_within s c.next c.before e in
-    let i = whole_in s c.next c.before e o.lies in
+    let i = whole_within s c.next c.before e in
+    let n = whole_in s c.next c.before e o.lies in
     record {
       inside = omega arith;
-      forward = w.0;
-      within = w.1;
+      forward = i.0;
+      within = i.1;
       before = refl;
-      behind = i;
-      not_astray = not_astray (length s) (record { next = n; before = m }) (own_behind s c m n e o);
+      behind = n;
+      not_astray = not_astray (length s) (record { next = w.next; before = w.found }) (own_behind s c w e o);
     }
 
 -- from any cursor on, the message that is read lies inside the block, and so does the cursor behind it
-pub next_inside : (s : List ℕ) (c : Cursor) {m : Found} {d : Cursor} → next_message s c ≡ next.Message m d → Ahead s c m d
+pub next_inside : (s : List ℕ) (c : Cursor) {f : Following} → next_message s c ≡ Ok (Some f) → Ahead s c f.found f.cursor
 unfolding next_message
 next_inside s c e = rw e at (goes s c (astray (length s) c) (eqb c.next (length s)) (pdu_at s c.next c.before) refl refl)

@@ -8,14 +8,13 @@ use native.Mathlib.Nat.{div-one, mod-eq_of_lt}
 use lib.ListN.{length, get_or, length-append}
 use lib.Seq.{get_or-append_seam, get_or-append-add, drop-append-add, take-append_seam}
 use borrow.Author.Tests.{lt-ltb, le-ltb, eq-eqb, ne_eqb}
+use Rattle.std.specs.Prelude.{slice_get, Some, None, Ok}
+use Rattle.std.proofs.lemmas.Option.{slice_get-get_or, slice_get_past}
 use Rattle.octets.specs.Octets.{number, octets}
 use Rattle.block.specs.Pdu.{has_l, has_v, has_h, has_d, head_size, fields, size_at, lacks_flag, left_over, malformed, found_at, pdu_at}
-use Rattle.block.specs.Block.{most_block, nothing, messages, with, parse_from, parse, message_at, asked, read_block}
+use Rattle.block.specs.Block.{most_block, nothing, with, parse_from, parse, asked, read_block}
 use Rattle.block.specs.Written.{pdu, Piece, together, Names, AllShort, Alone}
 use Rattle.block.specs.declared.Found.{Found}
-use Rattle.block.specs.declared.Pdu.TheVariants.{Whole}
-use Rattle.block.specs.declared.BlockRead.TheVariants.{Message, Fewer}
-use Rattle.block.proofs.Position.{position_there, position_past}
 
 -- the first octet of a written PDU of this length: the flags, and the length's upper bits
 first : ℕ → ℕ
@@ -63,7 +62,7 @@ module _ (pre : List ℕ) (vector : ℕ) (body rest : List ℕ) where
 
     pdu_here : (before : Found)
         → pdu_at (pre ++ (pdu vector body ++ rest)) (length pre) before
-        ≡ Whole (found (length pre) body) (length pre + (3 + length body))
+        ≡ Some (record { found = found (length pre) body; next = length pre + (3 + length body) })
     unfolding pdu_at malformed lacks_flag left_over found_at fields head_size
     pdu_here before =
         let n : ℕ = 3 + length body in
@@ -110,7 +109,7 @@ module _ (pre : List ℕ) (m : Piece) (ms : List Piece) where
 
 -- they are all parsed, and nothing else
 parse_together : (k : ℕ) (pre : List ℕ) (ms : List Piece) (before : Found) → AllShort ms → length (together ms) ≤ k
-    → parse_from k (pre ++ together ms) (length pre) before ≡ messages (placed (length pre) ms)
+    → parse_from k (pre ++ together ms) (length pre) before ≡ Ok (placed (length pre) ms)
 unfolding parse_from together octets
 parse_together zero pre [] before a h = refl
 parse_together (suc k) pre [] before a h = rw (append-nil, le-ltb (length pre) (length pre) (omega arith))
@@ -136,27 +135,27 @@ length_placed at [] = refl
 length_placed at (m ∷ ms) = ap suc (length_placed (at + (3 + length m.body)) ms)
 
 module _ (ms : List Piece) (a : AllShort ms) (h : length (together ms) ≤ most_block) where
-  read_placed : (k : ℕ) → read_block (together ms) k ≡ message_at (placed 0 ms) k
+  read_placed : (k : ℕ) → read_block (together ms) k ≡ Ok (slice_get (placed 0 ms) k)
   unfolding read_block parse asked
   read_placed k =
       rw (le-ltb most_block (length (together ms)) h, parse_together (length (together ms)) [] ms nothing a (omega arith))
 
   -- at each position below their number, the message of that position is read
   pub in_order : (k : ℕ) (d : Piece) → k < length ms
-      → (f : Found) × (read_block (together ms) k ≡ Message f) × Names (together ms) f (get_or ms k d)
+      → (f : Found) × (read_block (together ms) k ≡ Ok (Some f)) × Names (together ms) f (get_or ms k d)
   in_order k d i = (
     get_or (placed 0 ms) k nothing,
-    read_placed k ∙ position_there (placed 0 ms) k nothing (rw length_placed i),
+    read_placed k ∙ ap Ok (slice_get-get_or (placed 0 ms) k nothing (rw length_placed i)),
     names [] ms k d a i,
   )
 
   -- past them, the block has fewer
-  pub no_more : (k : ℕ) → length ms ≤ k → read_block (together ms) k ≡ Fewer
-  no_more k i = read_placed k ∙ position_past (placed 0 ms) k (rw length_placed i)
+  pub no_more : (k : ℕ) → length ms ≤ k → read_block (together ms) k ≡ Ok None
+  no_more k i = read_placed k ∙ ap Ok (slice_get_past (placed 0 ms) k (rw length_placed i))
 
 -- it has one message, with this vector and these data
 pub one_written : (vector : ℕ) (body : List ℕ) → vector < 256 → 3 + length body < 4096 → Alone vector body
-unfolding together octets message_at
+unfolding together octets
 one_written vector body v b =
     let ms : List Piece = record { vector = vector; body = body } ∷ [] in
     let fits : length (together ms) ≤ most_block = omega (arith, length_here [] vector body []) in

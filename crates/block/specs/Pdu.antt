@@ -1,10 +1,9 @@
 -- One PDU of a block (01, "Blocks and layouts"): its flags, its length, when it is malformed, and the message that it gives.
 -- s is the block, `at` the place where the PDU begins, and b its first octet.
-use Rattle.std.specs.Prelude.{ℕ, ◌+◌, ◌-◌, ◌/◌, ◌%◌, ◌<◌, ◌≤◌, Bool, cond, not, ◌&&◌, ◌||◌, List, ◌∷◌, length, get_or, ltb, eqb}
+use Rattle.std.specs.Prelude.{ℕ, ◌+◌, ◌-◌, ◌/◌, ◌%◌, Bool, cond, not, ◌&&◌, ◌||◌, List, ◌∷◌, length, get_or, ltb, eqb, Option, Some, None}
 use Rattle.octets.specs.Octets.{number, part}
 use Rattle.block.specs.declared.Found.{Found}
-use Rattle.block.specs.declared.Pdu.{Pdu}
-use Rattle.block.specs.declared.Pdu.TheVariants.{Whole, Bad}
+use Rattle.block.specs.declared.Whole.{Whole}
 
 -- the top four bits of the first octet
 abbrev pub has_l : ℕ → Bool
@@ -72,13 +71,8 @@ found_at at b size before =
       len = cond (has_d b) (size - fields b) before.len;
     }
 
--- what stands at a place where a PDU begins; the next one begins behind it
-unfoldable pub pdu_at : List ℕ → ℕ → Found → Pdu
+-- what stands at a place where a PDU begins: nothing that is read, if it is malformed, or else a whole PDU; the next one begins behind it
+unfoldable pub pdu_at : List ℕ → ℕ → Found → Option Whole
 pdu_at s at before =
-    cond (malformed s at) Bad
-    (Whole (found_at at (get_or s at 0) (size_at s at) before) (at + size_at s at))
-
--- for the code's loop, which ends because of it: a whole PDU ends behind its first octet and within the block
-abbrev pub Within : List ℕ → ℕ → Pdu → Type 0
-Within s at Bad = Unit
-Within s at (Whole found next) = (at < next) × (next ≤ length s)
+    cond (malformed s at) None
+    (Some (record { found = found_at at (get_or s at 0) (size_at s at) before; next = at + size_at s at }))

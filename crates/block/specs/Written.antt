@@ -1,10 +1,9 @@
 -- A PDU as it is written, and a block of such PDUs (01, "Blocks and layouts": the short length with V, H and D set).
 use Prim.{Unit}
-use Rattle.std.specs.Prelude.{ℕ, ◌+◌, ◌<◌, List, [], ◌∷◌, ◌++◌, ◌≡◌, length, get_or, drop}
+use Rattle.std.specs.Prelude.{ℕ, ◌+◌, ◌<◌, List, [], ◌∷◌, ◌++◌, ◌≡◌, length, get_or, drop, Some, None, Ok}
 use Rattle.octets.specs.Octets.{octets, part}
 use Rattle.block.specs.Block.{read_block}
 use Rattle.block.specs.declared.Found.{Found}
-use Rattle.block.specs.declared.BlockRead.TheVariants.{Message, Fewer}
 
 -- V, H and D set and L clear, with the length below them: 0x7000 and the length, in two octets
 abbrev pub head : ℕ → ℕ → List ℕ
@@ -44,7 +43,7 @@ AllShort (m ∷ ms) = Short m × AllShort ms
 
 -- a block that is one written PDU
 pub record Alone (vector : ℕ) (body : List ℕ) : Type 0 where
-  pub message : read_block (pdu vector body) 0 ≡ Message (record { vector = 2; place = 3; len = length body })
+  pub message : read_block (pdu vector body) 0 ≡ Ok (Some (record { vector = 2; place = 3; len = length body }))
   pub vector_there : get_or (pdu vector body) 2 0 ≡ vector
   pub body_there : drop 3 (pdu vector body) ≡ body
-  pub no_other : read_block (pdu vector body) 1 ≡ Fewer
+  pub no_other : read_block (pdu vector body) 1 ≡ Ok None

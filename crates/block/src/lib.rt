@@ -1,11 +1,13 @@
 // Reading a block of base messages: where the vector and the data of each message lie, or where the first malformed PDU begins.
 #![tactic(auto)]
 
-ghost use Rattle.std.specs.Prelude.{◌≡◌, cond, ◌+◌, ◌^◌, ◌≤◌, ◌<◌, length, get_or};
-ghost use Rattle.block.specs.Pdu.{has_v, has_d, head_size, fields, size_at, lacks_flag, left_over, found_at, pdu_at, Within};
+ghost use Rattle.std.specs.Prelude.{◌≡◌, Bool, cond, ◌&&◌, ◌+◌, ◌^◌, ◌≤◌, ◌<◌, not, length, get_or, IfSome};
+ghost use Rattle.block.specs.Pdu.{has_l, has_v, has_h, has_d, head_size, fields, size_at, lacks_flag, left_over, found_at, pdu_at};
 ghost use Rattle.block.specs.Block.{scan_of};
 ghost use Rattle.block.specs.Cursor.{astray};
 ghost use Rattle.block.specs.Allowed.{ReadBlockAllows, OpenBlockAllows, NextMessageAllows};
+
+use refusal::Refusal;
 
 // A message of a block: the place of its vector, and the place and length of its data.
 #[repr(C)]
@@ -16,20 +18,11 @@ pub struct Found {
     pub len: usize,
 }
 
-// What stands where a PDU begins: a whole PDU, with its message and the place behind it, or a malformed one.
+// A PDU that is not malformed: its message, and the place behind it, where the next PDU begins.
 #[derive(Clone, Copy)]
-pub enum Pdu {
-    Whole { found: Found, next: usize },
-    Bad,
-}
-
-// What reading one message of a block answers. `TooLong` is refusal 1; `Malformed` is refusal 11, with the place of the first bad PDU.
-#[derive(Clone, Copy)]
-pub enum BlockRead {
-    Message(Found),
-    Fewer,
-    TooLong,
-    Malformed(usize),
+pub struct Whole {
+    pub found: Found,
+    pub next: usize,
 }
 
 // Where reading goes on: the place of the next PDU, and the message before it, from which that PDU may take its vector or its data.
@@ -40,28 +33,34 @@ pub struct Cursor {
     pub before: Found,
 }
 
-// What opening a block answers: how many messages it has and the cursor before them, or refusal 1 or 11.
+// What opening a block gives: how many messages it has, and the cursor before them.
 #[derive(Clone, Copy)]
-pub enum Opened {
-    Messages { count: usize, cursor: Cursor },
-    TooLong,
-    Malformed(usize),
+pub struct Opened {
+    pub count: usize,
+    pub cursor: Cursor,
 }
 
-// What reading on answers: the next message and the cursor behind it, that there is none, or that the cursor cannot be this block's.
+// What reading on gives: the next message, and the cursor behind it.
 #[derive(Clone, Copy)]
-pub enum Next {
-    Message { found: Found, cursor: Cursor },
-    End,
-    Astray,
+pub struct Following {
+    pub found: Found,
+    pub cursor: Cursor,
 }
 
-// One pass over a block: the place of its first malformed PDU, or how many messages it has and the one that was asked for.
+// The cursor cannot be one of this block's.
+#[derive(Clone, Copy, Debug, PartialEq, Eq)]
+pub struct Astray;
+
+// One pass over a block: how many messages it has, and the one that was asked for, if it is among them.
 #[derive(Clone, Copy)]
-pub enum Scanned {
-    Stopped(usize),
-    Through { count: usize, found: Found },
+pub struct Scanned {
+    pub count: usize,
+    pub found: Option<Found>,
 }
+
+// The first octet of a PDU: its four flags, and the upper bits of its length.
+#[derive(Clone, Copy)]
+struct Flags(u8);
 
 const MOST_BLOCK: usize = 65535;
 
@@ -71,228 +70,207 @@ const NOTHING: Found = Found {
     len: 0,
 };
 
-fn choose(c: bool, a: usize, b: usize) -> usize
-    ensures { result ≡ cond c a b }
-{
-    if c { a } else { b }
-}
+const START: Cursor = Cursor {
+    next: 0,
+    before: NOTHING,
+};
 
-fn has_v(b: usize) -> bool
-    ensures { result ≡ has_v b }
-{
-    b / 64 % 2 == 1
-}
+impl Flags {
+    fn has_l(self) -> bool
+        ensures { result ≡ has_l self.0 }
+    {
+        self.0 / 128 % 2 == 1
+    }
 
-fn has_d(b: usize) -> bool
-    ensures { result ≡ has_d b }
-{
-    b / 16 % 2 == 1
-}
+    fn has_v(self) -> bool
+        ensures { result ≡ has_v self.0 }
+    {
+        self.0 / 64 % 2 == 1
+    }
 
-fn head_size(b: usize) -> usize
-    ensures { (result ≡ head_size b) × (2 ≤ result) × (result ≤ 3) }
-{
-    if b / 128 % 2 == 1 { 3 } else { 2 }
-}
+    fn has_d(self) -> bool
+        ensures { result ≡ has_d self.0 }
+    {
+        self.0 / 16 % 2 == 1
+    }
 
-fn fields_of(b: usize, head: usize) -> usize
-    requires head_value { head ≡ head_size b }
-    requires head_bound { head ≤ 3 }
-    ensures { (result ≡ fields b) × (head ≤ result) × (result ≤ 4) }
-{
-    if has_v(b) { head + 1 } else { head }
-}
+    // A first PDU without V, H or D.
+    #[tactic(auto, using(crate::proofs::OnePdu::flags), unfolding(crate::specs::Pdu::lacks_flag))]
+    fn lacks_flag(self, at: usize) -> bool
+        ensures { result ≡ lacks_flag at self.0 }
+    {
+        at == 0 && self.0 / 16 % 8 != 7
+    }
 
-// The length of the PDU at `at`, whose length octets are there.
-fn size_at(block: &[u8], at: usize, b: usize) -> usize
-    requires b_value { b ≡ get_or block.now at 0 }
-    requires b_bound { b < 256 }
-    requires b_in_bounds { at + head_size b ≤ length block.now }
-    ensures { (result ≡ size_at block.now at) × (result < 1048576) }
-{
-    let low = b % 16 * 256 + block[at + 1] as usize;
-    if b / 128 % 2 == 1 {
-        low * 256 + block[at + 2] as usize
-    } else {
-        low
+    // The octets of flags and length.
+    #[tactic(auto, unfolding(crate::specs::Pdu::head_size))]
+    fn head_size(self) -> usize
+        ensures { (result ≡ head_size self.0) × (2 ≤ result) × (result ≤ 3) }
+    {
+        if self.has_l() { 3 } else { 2 }
     }
-}
 
-// A first PDU without V, H or D.
-fn lacks_flag(at: usize, b: usize) -> bool
-    ensures { result ≡ lacks_flag at b }
-{
-    if at == 0 {
-        return b / 16 % 8 != 7;
+    // The octets of a PDU's own fields.
+    #[tactic(auto, unfolding(crate::specs::Pdu::fields))]
+    fn fields(self) -> usize
+        ensures { (result ≡ fields self.0) × (head_size self.0 ≤ result) × (result ≤ 4) }
+    {
+        if self.has_v() {
+            self.head_size() + 1
+        } else {
+            self.head_size()
+        }
     }
-    false
-}
 
-// Octets left over with D clear.
-fn left_over(b: usize, own: usize, size: usize) -> bool
-    ensures { result ≡ left_over b own size }
-{
-    if has_d(b) {
-        return false;
+    // Octets left over with D clear, in a PDU of this length.
+    #[tactic(auto, unfolding(crate::specs::Pdu::left_over))]
+    fn leaves_over(self, size: usize) -> bool
+        ensures { result ≡ left_over self.0 (fields self.0) size }
+    {
+        !self.has_d() && self.fields() < size
     }
-    own < size
-}
 
-// The message of the PDU at `at`: what it does not carry itself is that of the one before.
-fn found_at(at: usize, b: usize, head: usize, own: usize, size: usize, before: Found) -> Found
-    requires head_value { (head ≡ head_size b) × (own ≡ fields b) }
-    requires own_le_size { (own ≤ size) × (at + size < 2 ^ 64) × (head ≤ own) }
-    ensures { result ≡ found_at at b size before }
-{
-    let d = has_d(b);
-    Found {
-        vector: choose(has_v(b), at + head, before.vector),
-        place: choose(d, at + own, before.place),
-        len: choose(d, size - own, before.len),
-    }
-}
-
-// The PDU that begins at `at`.
-fn pdu_at(block: &[u8], at: usize, before: Found) -> Pdu
-    requires { at < length block.now }
-    ensures { (result ≡ pdu_at block.now at before) × (Within block.now at result) }
-{
-    let b = block[at] as usize;
-    if lacks_flag(at, b) {
-        return Pdu::Bad;
-    }
-    let left = block.len() - at;
-    let head = head_size(b);
-    if left < head {
-        return Pdu::Bad;
-    }
-    let size = size_at(block, at, b);
-    let own = fields_of(b, head);
-    if size < own {
-        return Pdu::Bad;
-    }
-    if left < size {
-        return Pdu::Bad;
-    }
-    if left_over(b, own, size) {
-        return Pdu::Bad;
-    }
-    Pdu::Whole {
-        found: found_at(at, b, head, own, size, before),
-        next: at + size,
-    }
-}
-
-// The message that is kept while a block is passed over: the one at the position asked for.
-fn kept(here: bool, m: Found, found: Found) -> Found
-    ensures { result ≡ cond here m found }
-{
-    if here { m } else { found }
-}
-
-// Passes over the whole block, keeping the message at `position`.
-fn scan(block: &[u8], position: usize) -> Scanned
-    ensures { result ≡ scan_of block.now position }
-{
-    let mut at = 0;
-    let mut count = 0;
-    let mut before = NOTHING;
-    let mut found = NOTHING;
-    while at < block.len() {
-        let Pdu::Whole { found: m, next } = pdu_at(block, at, before) else {
-            return Scanned::Stopped(at);
-        };
-        found = kept(count == position, m, found);
-        before = m;
-        at = next;
-        count += 1;
-    }
-    Scanned::Through { count, found }
-}
-
-// The message of a block at `position`, counted from 0.
-pub fn read_block(block: &[u8], position: u32) -> BlockRead
-    ensures { ReadBlockAllows block.now position result }
-{
-    if MOST_BLOCK < block.len() {
-        return BlockRead::TooLong;
-    }
-    let asked = position as usize;
-    match scan(block, asked) {
-        Scanned::Stopped(at) => BlockRead::Malformed(at),
-        Scanned::Through { count, found } => {
-            if asked < count {
-                BlockRead::Message(found)
-            } else {
-                BlockRead::Fewer
+    // The message of the PDU of this length at `at`: what it does not carry itself is that of the one before.
+    #[tactic(auto, unfolding(crate::specs::Pdu::found_at, crate::specs::Pdu::fields))]
+    fn message(self, at: usize, size: usize, before: Found) -> Found
+        requires fields_le_size { (fields self.0 ≤ size) × (at + size < 2 ^ 64) }
+        ensures { result ≡ found_at at self.0 size before }
+    {
+        let body = if self.has_d() {
+            Found {
+                place: at + self.fields(),
+                len: size - self.fields(),
+                ..before
             }
+        } else {
+            before
+        };
+        if self.has_v() {
+            Found {
+                vector: at + self.head_size(),
+                ..body
+            }
+        } else {
+            body
         }
     }
 }
 
-// How many messages a block has, and the cursor before the first.
-pub fn open_block(block: &[u8]) -> Opened
-    ensures { OpenBlockAllows block.now result }
+// The length of the PDU at `at`, whose length octets are there.
+#[tactic(auto, using(crate::proofs::OnePdu::sizes))]
+fn size_at(block: &[u8], at: usize) -> usize
+    requires { at + head_size (get_or block.now at 0) ≤ length block.now }
+    ensures { (result ≡ size_at block.now at) × (result < 1048576) }
+{
+    let flags = Flags(block[at]);
+    let short = flags.0 as usize % 16 * 256 + block[at + 1] as usize;
+    if flags.has_l() {
+        short * 256 + block[at + 2] as usize
+    } else {
+        short
+    }
+}
+
+// The PDU that begins at `at`, unless it is malformed.
+#[tactic(auto, using(crate::proofs::OnePdu::pdus, crate::proofs::OnePdu::whole))]
+fn pdu_at(block: &[u8], at: usize, before: Found) -> Option<Whole>
+    requires { at < length block.now }
+    ensures pdu { result ≡ pdu_at block.now at before }
+    ensures within { IfSome result (λ whole. (at < whole.next) × (whole.next ≤ length block.now)) }
+{
+    let flags = Flags(block[at]);
+    let left = block.len() - at;
+    if flags.lacks_flag(at) || left < flags.head_size() {
+        return None;
+    }
+    let size = size_at(block, at);
+    if size < flags.fields() || left < size || flags.leaves_over(size) {
+        return None;
+    }
+    Some(Whole {
+        found: flags.message(at, size, before),
+        next: at + size,
+    })
+}
+
+// Passes over the whole block, keeping the message at `position`.
+#[tactic(auto, using(crate::proofs::Pass::turns))]
+fn scan(block: &[u8], position: usize) -> Result<Scanned, Refusal>
+    ensures { result ≡ scan_of block.now position }
 {
     if MOST_BLOCK < block.len() {
-        return Opened::TooLong;
+        return Err(Refusal::WrongSize);
     }
-    match scan(block, 0) {
-        Scanned::Stopped(at) => Opened::Malformed(at),
-        Scanned::Through { count, found: _ } => Opened::Messages {
-            count,
-            cursor: Cursor {
-                next: 0,
-                before: NOTHING,
-            },
-        },
+    let mut at = 0;
+    let mut count = 0;
+    let mut before = NOTHING;
+    let mut found = None;
+    while at < block.len() {
+        let Some(whole) = pdu_at(block, at, before) else {
+            return Err(Refusal::Malformed(at));
+        };
+        if count == position {
+            found = Some(whole.found);
+        }
+        before = whole.found;
+        at = whole.next;
+        count += 1;
     }
+    Ok(Scanned { count, found })
 }
 
-// Whether a cursor cannot be one of a block of `size` octets.
-fn is_astray(size: usize, c: Cursor) -> bool
-    ensures { result ≡ astray size c }
+// The message of a block at `position`, counted from 0, if it has one there.
+#[tactic(auto, unfolding(crate::specs::Block::read_block, crate::specs::Block::asked, crate::specs::Block::scan_of))]
+pub fn read_block(block: &[u8], position: u32) -> Result<Option<Found>, Refusal>
+    ensures { ReadBlockAllows block.now position result }
 {
-    let next = c.next;
-    let before = c.before;
-    if MOST_BLOCK < size {
-        return true;
-    }
-    if size < next {
-        return true;
-    }
-    if next == 0 {
-        return false;
-    }
-    if next <= before.vector {
-        return true;
-    }
-    if next < before.place {
-        return true;
-    }
-    next - before.place < before.len
+    Ok(scan(block, position as usize)?.found)
 }
 
-// The message behind the cursor. Any cursor is taken; what it answers lies inside the block.
-pub fn next_message(block: &[u8], cursor: Cursor) -> Next
+// How many messages a block has, and the cursor before the first.
+#[tactic(auto, unfolding(crate::specs::Cursor::open_block, crate::specs::Cursor::opened_of, crate::specs::Block::scan_of))]
+pub fn open_block(block: &[u8]) -> Result<Opened, Refusal>
+    ensures { OpenBlockAllows block.now result }
+{
+    let scanned = scan(block, 0)?;
+    Ok(Opened {
+        count: scanned.count,
+        cursor: START,
+    })
+}
+
+impl Cursor {
+    // Whether it cannot be one of a block of `size` octets.
+    #[tactic(auto, unfolding(crate::specs::Cursor::astray))]
+    fn is_astray(self, size: usize) -> bool
+        ensures { result ≡ astray size self }
+    {
+        MOST_BLOCK < size
+            || size < self.next
+            || self.next != 0
+                && (self.next <= self.before.vector
+                    || self.next < self.before.place
+                    || self.next - self.before.place < self.before.len)
+    }
+}
+
+// The message behind the cursor, if the block does not end there. Any cursor is taken; what it answers lies inside the block.
+#[tactic(auto, using(crate::proofs::Inside::begins), unfolding(crate::specs::Cursor::next_message))]
+pub fn next_message(block: &[u8], cursor: Cursor) -> Result<Option<Following>, Astray>
     ensures { NextMessageAllows block.now cursor result }
 {
-    if is_astray(block.len(), cursor) {
-        return Next::Astray;
+    if cursor.is_astray(block.len()) {
+        return Err(Astray);
     }
-    let at = cursor.next;
-    let before = cursor.before;
-    if at == block.len() {
-        return Next::End;
+    if cursor.next == block.len() {
+        return Ok(None);
     }
-    match pdu_at(block, at, before) {
-        Pdu::Whole { found, next } => Next::Message {
-            found,
-            cursor: Cursor {
-                next,
-                before: found,
-            },
+    let whole = pdu_at(block, cursor.next, cursor.before).ok_or(Astray)?;
+    Ok(Some(Following {
+        found: whole.found,
+        cursor: Cursor {
+            next: whole.next,
+            before: whole.found,
         },
-        Pdu::Bad => Next::Astray,
-    }
+    }))
 }

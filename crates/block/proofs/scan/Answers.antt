@@ -2,14 +2,8 @@
 use Rattle.block.proofs.Pass.{turns}
 use Rattle.block.proofs.scan.Goals as goal
 
-pub loop-at-init : goal.loop-at-init
-loop-at-init c = search turns
-
 pub returns-in_default : goal.returns-in_default
 returns-in_default c = search turns
-
-pub loop-at-preserved : goal.loop-at-preserved
-loop-at-preserved c = search turns
 
 pub returns : goal.returns
 returns c = search turns

@@ -8,22 +8,23 @@ use native.Mathlib.Omega.{arith}
 use lib.ListN.{length, get_or}
 use lib.Dec.{lit≤}
 use borrow.Author.Tests.{ltb-false}
+use Rattle.std.specs.Prelude.{Some, None}
 use Rattle.block.specs.Pdu.{has_l, has_v, head_size, fields, size_at, lacks_flag, below_fields, length_missing, past_end, left_over, malformed, found_at, pdu_at}
 use Rattle.block.specs.declared.Found.{Found}
-use Rattle.block.specs.declared.Pdu.TheVariants.{Whole, Bad}
+use Rattle.block.specs.declared.Whole.{Whole}
 
 -- what is not the one or the other is neither
 pub neither : (a b : Bool) → (a || b) ≡ false → (a ≡ false) × (b ≡ false)
 neither true b e = absurd (true≢false e)
 neither false b e = (refl, e)
 
--- the PDU at `at` has its flags, its length fits, and it gives the message m and ends before `next`
-pub record Sound (s : List ℕ) (at : ℕ) (before m : Found) (next : ℕ) : Type 0 where
+-- the PDU at `at` has its flags, its length fits, and w is its message and the place behind it
+pub record Sound (s : List ℕ) (at : ℕ) (before : Found) (w : Whole) : Type 0 where
   pub flagged : lacks_flag at (get_or s at 0) ≡ false
   pub fits : fields (get_or s at 0) ≤ size_at s at
   pub inside : at + size_at s at ≤ length s
-  pub message : m ≡ found_at at (get_or s at 0) (size_at s at) before
-  pub behind : next ≡ at + size_at s at
+  pub message : w.found ≡ found_at at (get_or s at 0) (size_at s at) before
+  pub behind : w.next ≡ at + size_at s at
 
 -- a PDU's own fields are two octets or more
 two_fields : (v l : Bool) → 2 ≤ cond v (cond l 3 2 + 1) (cond l 3 2)
@@ -32,13 +33,13 @@ two_fields true false = lit≤ tt
 two_fields false true = lit≤ tt
 two_fields false false = lit≤ tt
 
-module _ (s : List ℕ) (at : ℕ) (before : Found) {m : Found} {next : ℕ} where
+module _ (s : List ℕ) (at : ℕ) (before : Found) {w : Whole} where
   of_test : (t : Bool) → malformed s at ≡ t
-      → cond t Bad (Whole (found_at at (get_or s at 0) (size_at s at) before) (at + size_at s at)) ≡ Whole m next
-      → Sound s at before m next
+      → cond t None (Some (record { found = found_at at (get_or s at 0) (size_at s at) before; next = at + size_at s at })) ≡ Some w
+      → Sound s at before w
   unfolding malformed
-  of_test true e w = let z : ◌≡◌ {A = ℕ} 0 1 = cc in absurd (omega arith)
-  of_test false e w =
+  of_test true e f = let z : ◌≡◌ {A = ℕ} 0 1 = cc in absurd (omega arith)
+  of_test false e f =
       let b : ℕ = get_or s at 0 in
       let left = neither (lacks_flag at b || below_fields s at || length_missing s at || past_end s at) (left_over b (fields b) (size_at s at)) e in
       let past = neither (lacks_flag at b || below_fields s at || length_missing s at) (past_end s at) left.0 in
@@ -53,12 +54,12 @@ module _ (s : List ℕ) (at : ℕ) (before : Found) {m : Found} {next : ℕ} whe
       }
 
   -- a whole PDU is malformed by no clause
-  pub sound : pdu_at s at before ≡ Whole m next → Sound s at before m next
+  pub sound : pdu_at s at before ≡ Some w → Sound s at before w
   unfolding pdu_at
   sound = of_test (malformed s at) refl
 
   -- a whole PDU ends behind its first octet and within the block
-  pub whole_within : pdu_at s at before ≡ Whole m next → (at < next) × (next ≤ length s)
+  pub whole_within : pdu_at s at before ≡ Some w → (at < w.next) × (w.next ≤ length s)
   unfolding fields head_size
   whole_within e =
       let whole = sound e in
