@@ -151,3 +151,7 @@ module _ (v : ℕ) (d : List ℕ) where
       by : (t : Bool) → eqb v get_sessions ≡ t → v ≡ get_sessions
       by true e = eqb-true v get_sessions e
       by false e = let g = eqb-false v get_sessions e in absurd (true≢false (sym r ∙ none_readable (omega arith)))
+
+pub ruleset fixed_lengths = (refuse_length, accept_length, leaving_length, ack_length, nak_length, sessions_length, last_vector)
+
+pub ruleset lengths = (reliable_length, unreliable_length, join_is, fixed_vector)

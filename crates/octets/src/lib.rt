@@ -15,10 +15,10 @@ pub trait Field: Copy {
         requires { at + width ≤ length s.now }
         ensures { value result ≡ number_at s.now at width };
 
-    // Writes the number over the octets from `at` on.
-    fn put(self, s: &mut [u8], at: usize)
+    // Writes the number over the octets from `at` on, and answers the place behind it.
+    fn put(self, s: &mut [u8], at: usize) -> usize
         requires { at + width ≤ length s.old }
-        ensures { s.new ≡ splice s.old at (octets width (value self)) };
+        ensures { (s.new ≡ splice s.old at (octets width (value self))) × (result ≡ at + width) };
 }
 
 impl Field for u8 {
@@ -32,8 +32,9 @@ impl Field for u8 {
     }
 
     #[tactic(auto, using(crate::proofs::Writes::splice_one))]
-    fn put(self, s: &mut [u8], at: usize) {
+    fn put(self, s: &mut [u8], at: usize) -> usize {
         s[at] = self;
+        at + 1
     }
 }
 
@@ -48,8 +49,9 @@ impl Field for u16 {
     }
 
     #[tactic(auto, using(crate::proofs::Writes::number_copied))]
-    fn put(self, s: &mut [u8], at: usize) {
+    fn put(self, s: &mut [u8], at: usize) -> usize {
         s[at..at + 2].copy_from_slice(&self.to_be_bytes());
+        at + 2
     }
 }
 
@@ -64,8 +66,9 @@ impl Field for u32 {
     }
 
     #[tactic(auto, using(crate::proofs::Writes::number_copied))]
-    fn put(self, s: &mut [u8], at: usize) {
+    fn put(self, s: &mut [u8], at: usize) -> usize {
         s[at..at + 4].copy_from_slice(&self.to_be_bytes());
+        at + 4
     }
 }
 
@@ -89,8 +92,9 @@ impl Field for u64 {
     }
 
     #[tactic(auto, using(crate::proofs::Writes::number_copied))]
-    fn put(self, s: &mut [u8], at: usize) {
+    fn put(self, s: &mut [u8], at: usize) -> usize {
         s[at..at + 8].copy_from_slice(&self.to_be_bytes());
+        at + 8
     }
 }
 

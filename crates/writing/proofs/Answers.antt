@@ -2,7 +2,7 @@
 -- `write_message` has at hand. Assumes nothing.
 use Prim.Native.Nat.{ℕ, ◌+◌, ◌<◌, ◌≤◌}
 use native.Mathlib.Omega.{arith}
-use mathlib.Core.Path.{◌≡◌, refl, ap}
+use mathlib.Core.Path.{◌≡◌, refl, sym, ap}
 use mathlib.Core.Bool.{Bool, true, false}
 use mathlib.Core.List.{List, ◌++◌, append-nil}
 use lib.ListN.{length, take, length-append}
@@ -19,7 +19,7 @@ use Rattle.writing.specs.declared.Form.{Form}
 use Rattle.writing.specs.declared.Wrote.{Wrote}
 use Rattle.writing.specs.declared.Wrote.TheVariants.{Octets, NoForm, NoRoom, ContentsOver}
 use Rattle.writing.proofs.Forms.{Listed, listed, none_listed, one_listed, contents_length, pdu_length}
-use Rattle.writing.proofs.Runs.{◌then◌, done, written}
+use Rattle.writing.proofs.Runs.{Puts, ◌then◌, done, written}
 
 module _ (m : Message) (c r : List ℕ) where
   -- what is answered, with what it takes
@@ -57,14 +57,14 @@ module _ (m : Message) (c r : List ℕ) where
   ends a e l = rw (answer_is a, e, l)
 
   -- head, fields and contents, one right behind the other, are the PDU
-  placed : (s t u : List ℕ) → length (pdu_of m c) ≤ length r
-      → s ≡ splice r 0 (head (3 + length (fields_of m ++ contents_of m c)) (vector_of m))
-      → t ≡ splice s 3 (fields_of m)
-      → u ≡ splice t (3 + length (fields_of m)) (contents_of m c)
+  placed : (s t u : List ℕ) (fields behind : ℕ) → length (pdu_of m c) ≤ length r
+      → Puts r 0 (head (3 + length (fields_of m ++ contents_of m c)) (vector_of m)) s fields
+      → Puts s fields (fields_of m) t behind
+      → u ≡ splice t behind (contents_of m c)
       → u ≡ splice r 0 (pdu_of m c)
   unfolding octets pdu_of
-  placed s t u h se te ue =
-      written (se then te then ue then done) (rw (append-nil (contents_of m c))) (omega arith)
+  placed s t u fields behind h se te ue =
+      (written (se then te then (ue, refl) then done) (rw (append-nil (contents_of m c))) (omega arith)).0
 
 -- `form` and `len` are what `form_of` and `length_of` answer, and `more` what `carried` does
 module _ (m : Message) (form : Form) (len : ℕ) (e : form ≡ form_of m) (l : len ≡ length_of form.vector form.address) where
@@ -83,8 +83,8 @@ module _ (m : Message) (form : Form) (len : ℕ) (e : form ≡ form_of m) (l : l
     formed : (has_form m ≡ true) × (len ≡ length (fields_of m))
     formed = one_listed (has_form m) len (length (fields_of m)) told n
 
-    pub fields_fit : (k : ℕ) → 3 + len ≤ k → 3 + length (fields_of m) ≤ k
-    fields_fit k h = rw (← formed.1) h
+    pub fields_are : length (fields_of m) ≡ len
+    fields_are = sym formed.1
 
     module _ (c r : List ℕ) (more : ℕ) (k : more ≡ carried_of m (length c)) where
       size_is : 3 + len + more ≡ length (pdu_of m c)
@@ -100,12 +100,13 @@ module _ (m : Message) (form : Form) (len : ℕ) (e : form ≡ form_of m) (l : l
         body_is : 3 + len + more ≡ 3 + length (fields_of m ++ contents_of m c)
         body_is = omega (arith, length-append (fields_of m) (contents_of m c), contents_length m c, formed.1)
 
-        -- s, t and u are the room after the head, the fields and the contents
-        pub whole_answered : (s t u p : List ℕ) (size at : ℕ) → more ≤ most_contents → size ≡ 3 + len + more → at ≡ 3 + len → p ≡ take more c
-            → s ≡ splice r 0 (head size form.vector)
-            → t ≡ splice s 3 (fields_of m)
-            → u ≡ splice t at p
+        -- s, t and u are the room after the head, the fields and the contents, and `fields` and `behind` the places behind the first two
+        pub whole_answered : (s t u p : List ℕ) (size fields behind : ℕ) → more ≤ most_contents → size ≡ 3 + len + more → p ≡ take more c
+            → (s ≡ splice r 0 (head size form.vector)) × (fields ≡ 3)
+            → (t ≡ splice s fields (fields_of m)) × (behind ≡ fields + length (fields_of m))
+            → u ≡ splice t behind p
             → WriteMessageAllows m c r (record { answer = Octets size; room = u })
-        whole_answered s t u p size at o ze ae pe se te ue =
+        unfolding octets
+        whole_answered s t u p size fields behind o ze pe se te ue =
             ends m c r (whole formed.0 (omega (arith, size_is)) (omega (arith, contents_length m c))) (rw (ze, size_is))
-            (placed m c r s t u (omega (arith, size_is)) (rw (ze, body_is, vector_is) at se) te (rw (ae, pe, formed.1, k) at ue))
+            (placed m c r s t u fields behind (omega (arith, size_is)) (rw (ze, body_is, vector_is) at se) te (rw (pe, k) at ue))

@@ -12,7 +12,13 @@ use Rattle.octets.specs.Octets.{octets}
 use Rattle.message.specs.Lengths.{length_of, look, join}
 use Rattle.message.specs.declared.Address.{Address}
 use Rattle.message.specs.declared.Address.TheVariants as address
+use Rattle.counter.specs.declared.Reliable.{Reliable}
+use Rattle.message.specs.declared.Cid.{Cid}
+use Rattle.message.specs.declared.Endpoint.{Endpoint}
 use Rattle.message.specs.declared.Join.{Join}
+use Rattle.message.specs.declared.Membership.{Membership}
+use Rattle.message.specs.declared.Parameters.{Parameters}
+use Rattle.message.specs.declared.Wrapper.{Wrapper}
 use Rattle.message.specs.declared.Message.{Message}
 use Rattle.message.specs.declared.Message.TheVariants as message
 use Rattle.writing.specs.Fields.{cid_octets, membership_octets, wrapper_octets, parameters_octets, address_octets, join_octets, fields_of}
@@ -20,17 +26,49 @@ use Rattle.writing.specs.Writing.{vector_of, type_of, address_of, has_form, carr
 
 -- ---- fields
 
--- of a value that is known, the length computes
-pub address_length : (a b : Address) → a ≡ b → length (address_octets a) ≡ length (address_octets b)
-address_length a b e = ap (λ (x : Address). length (address_octets x)) e
+pub null_length : (p : Parameters) → length (address_octets (address.Null p)) ≡ 10
+unfolding octets parameters_octets address_octets
+null_length p = refl
 
-pub fields_length : (m n : Message) → m ≡ n → length (fields_of m) ≡ length (fields_of n)
-fields_length m n e = ap (λ (x : Message). length (fields_of x)) e
+pub ipv4_length : (e : Endpoint) (p : Parameters) → length (address_octets (address.Ipv4 e p)) ≡ 16
+unfolding octets parameters_octets address_octets
+ipv4_length e p = refl
+
+pub ruleset address_lengths = (null_length, ipv4_length)
 
 -- a Join's fixed fields are 30 octets
 pub join_length : (j : Join) → length (join_octets j) ≡ 30 + length (address_octets j.address)
 unfolding octets cid_octets join_octets
 join_length j = omega (arith, ap length (append-nil (address_octets j.address)))
+
+pub wrapper_length : (w : Wrapper) → length (wrapper_octets w) ≡ 20
+unfolding octets wrapper_octets
+wrapper_length w = refl
+
+pub cid_length : (c : Cid) → length (cid_octets c) ≡ 16
+unfolding octets cid_octets
+cid_length c = refl
+
+pub refuse_length : (m : Membership) (reason : ℕ) → length (fields_of (message.JoinRefuse m reason)) ≡ 25
+unfolding octets cid_octets membership_octets fields_of
+refuse_length m reason = refl
+
+pub accept_length : (m : Membership) (reciprocal : ℕ) → length (fields_of (message.JoinAccept m reciprocal)) ≡ 26
+unfolding octets cid_octets membership_octets fields_of
+accept_length m reciprocal = refl
+
+pub leaving_length : (m : Membership) (reason : ℕ) → length (fields_of (message.Leaving m reason)) ≡ 25
+unfolding octets cid_octets membership_octets fields_of
+leaving_length m reason = refl
+
+pub ack_length : (r : Reliable) → length (fields_of (message.Ack r)) ≡ 4
+unfolding octets fields_of
+ack_length r = refl
+
+pub nak_length : (m : Membership) (first last : Reliable) → length (fields_of (message.Nak m first last)) ≡ 32
+unfolding octets cid_octets membership_octets fields_of
+nak_length m first last = refl
+pub ruleset fields_lengths = (wrapper_length, cid_length, refuse_length, accept_length, leaving_length, ack_length, nak_length)
 
 -- ---- the table
 
