@@ -8,6 +8,7 @@ use mathlib.Core.List.{List}
 use lib.ListN.{get_or}
 use lib.Dec.{eqb}
 use borrow.Author.Tests.{eqb-false, ne_eqb}
+use Rattle.std.specs.Prelude.{Some}
 use Rattle.message.specs.Lengths.{reliable_wrapper, unreliable_wrapper, join, join_refuse, join_accept, leaving, ack, nak, null, ipv4}
 use Rattle.message.specs.Layouts as layouts
 use Rattle.message.specs.Reading.{fixed_of, message_of}
@@ -17,7 +18,6 @@ use Rattle.message.specs.declared.Join.{Join}
 use Rattle.message.specs.declared.Message.{Message}
 use Rattle.message.specs.declared.Message.TheVariants as message
 use Rattle.plain.specs.Messages.{destination_of, parameters_of, join_with, join_plain, plain_of, address_of, typed_of}
-use Rattle.plain.specs.declared.Typed.TheVariants as typed
 
 -- an address of another type than null and IPv4 has neither of their numbers
 abbrev pub ProperAddress : Address → Type 0
@@ -34,7 +34,7 @@ address_back (address.Other t) h =
     let l : ipv4 < t = h t refl in
     rw (ne_eqb t null (λ e. omega arith), ne_eqb t ipv4 (λ e. omega arith))
 
-pub typed_plain : (m : Message) → Proper m → typed_of (plain_of m) ≡ typed.Is m
+pub typed_plain : (m : Message) → Proper m → typed_of (plain_of m) ≡ Some m
 unfolding typed_of plain_of join_plain join_with
 typed_plain (message.ReliableWrapper w) h = refl
 typed_plain (message.UnreliableWrapper w) h = refl

@@ -1,5 +1,5 @@
 -- A message as a struct of numbers for C (01, "Room": "with numbers and octets only"), and back. Which field holds what, message by message, is `plain_of`.
-use Rattle.std.specs.Prelude.{ℕ, cond, eqb}
+use Rattle.std.specs.Prelude.{ℕ, cond, eqb, Option, Some, None}
 use Rattle.message.specs.Lengths.{reliable_wrapper, unreliable_wrapper, join, join_refuse, join_accept, leaving, ack, nak, get_sessions, null, ipv4}
 use Rattle.message.specs.Layouts.{total, reliable}
 use Rattle.message.specs.declared.Cid.{Cid}
@@ -17,8 +17,6 @@ use Rattle.plain.specs.declared.Order.{Order}
 use Rattle.plain.specs.declared.Missed.{Missed}
 use Rattle.plain.specs.declared.Destination.{Destination}
 use Rattle.plain.specs.declared.Plain.{Plain}
-use Rattle.plain.specs.declared.Typed.{Typed}
-use Rattle.plain.specs.declared.Typed.TheVariants as typed
 
 -- ---- parts, and what stands where a message has none
 
@@ -145,17 +143,17 @@ join_of p =
       address = address_of p.destination p.parameters;
     }
 
--- the message of these numbers; fields that its kind does not have are not looked at
-unfoldable pub typed_of : Plain → Typed
+-- the message of these numbers, if their vector is one of the nine; fields that its kind does not have are not looked at
+unfoldable pub typed_of : Plain → Option Message
 typed_of p =
-    cond (eqb p.vector reliable_wrapper) (typed.Is (message.ReliableWrapper (wrapper_of p.subject p.order)))
-    (cond (eqb p.vector unreliable_wrapper) (typed.Is (message.UnreliableWrapper (wrapper_of p.subject p.order)))
-    (cond (eqb p.vector join) (typed.Is (message.Join (join_of p)))
-    (cond (eqb p.vector join_refuse) (typed.Is (message.JoinRefuse (member_of p.subject) p.reason))
-    (cond (eqb p.vector join_accept) (typed.Is (message.JoinAccept (member_of p.subject) p.reciprocal))
-    (cond (eqb p.vector leaving) (typed.Is (message.Leaving (member_of p.subject) p.reason))
-    (cond (eqb p.vector ack) (typed.Is (message.Ack (reliable p.subject.reliable)))
+    cond (eqb p.vector reliable_wrapper) (Some (message.ReliableWrapper (wrapper_of p.subject p.order)))
+    (cond (eqb p.vector unreliable_wrapper) (Some (message.UnreliableWrapper (wrapper_of p.subject p.order)))
+    (cond (eqb p.vector join) (Some (message.Join (join_of p)))
+    (cond (eqb p.vector join_refuse) (Some (message.JoinRefuse (member_of p.subject) p.reason))
+    (cond (eqb p.vector join_accept) (Some (message.JoinAccept (member_of p.subject) p.reciprocal))
+    (cond (eqb p.vector leaving) (Some (message.Leaving (member_of p.subject) p.reason))
+    (cond (eqb p.vector ack) (Some (message.Ack (reliable p.subject.reliable)))
     (cond (eqb p.vector nak)
-    (typed.Is (message.Nak (member_of p.subject) (reliable p.missed.first) (reliable p.missed.last)))
-    (cond (eqb p.vector get_sessions) (typed.Is (message.GetSessions p.subject.cid))
-    typed.Unknown))))))))
+    (Some (message.Nak (member_of p.subject) (reliable p.missed.first) (reliable p.missed.last)))
+    (cond (eqb p.vector get_sessions) (Some (message.GetSessions p.subject.cid))
+    None))))))))

@@ -2,8 +2,7 @@
 #![tactic(auto)]
 
 ghost use Rattle.std.specs.Prelude.{◌≡◌};
-ghost use Rattle.message.specs.Lengths.{ack, get_sessions};
-ghost use Rattle.plain.specs.Messages.{no_missed, no_order, nobody, no_message, subject, member_subject, wrapper_plain, plain_with, address_of, member_of, wrapper_of, join_of, typed_of, join_with};
+ghost use Rattle.plain.specs.Messages.{member_subject, wrapper_plain, join_with, join_plain, plain_of, address_of, member_of, wrapper_of, join_of, typed_of};
 
 use counter::{Reliable, Total};
 use message::{Address, Cid, Endpoint, Join, Membership, Message, Parameters, Wrapper};
@@ -60,193 +59,214 @@ pub struct Plain {
     pub parameters: Parameters,
 }
 
-// The message that a struct of numbers is, or none if its vector is not one of the nine.
-#[derive(Clone, Copy)]
-pub enum Typed {
-    Is(Message),
-    Unknown,
-}
-
-const NOBODY: Cid = Cid { high: 0, low: 0 };
-
-const NO_ORDER: Order = Order {
-    total: 0,
-    oldest: 0,
-    first: 0,
-    last: 0,
-    threshold: 0,
+// No message: every number is 0.
+pub const EMPTY: Plain = Plain {
+    vector: 0,
+    reason: 0,
+    reciprocal: 0,
+    missed: Missed { first: 0, last: 0 },
+    subject: Subject {
+        cid: Cid { high: 0, low: 0 },
+        reliable: 0,
+        channel: 0,
+        mid: 0,
+    },
+    order: Order {
+        total: 0,
+        oldest: 0,
+        first: 0,
+        last: 0,
+        threshold: 0,
+    },
+    destination: Destination {
+        host: 0,
+        port: 0,
+        kind: 0,
+    },
+    parameters: Parameters {
+        expiry: 0,
+        flags: 0,
+        holdoff: 0,
+        modulus: 0,
+        maxwait: 0,
+        adhoc: 0,
+    },
 };
 
-pub const NO_MISSED: Missed = Missed { first: 0, last: 0 };
+impl From<Membership> for Subject {
+    ghost from_gives = { λ m s. s ≡ member_subject m };
 
-pub const NO_DESTINATION: Destination = Destination {
-    host: 0,
-    port: 0,
-    kind: 0,
-};
-
-pub const NO_PARAMETERS: Parameters = Parameters {
-    expiry: 0,
-    flags: 0,
-    holdoff: 0,
-    modulus: 0,
-    maxwait: 0,
-    adhoc: 0,
-};
-
-fn plain_with(
-    vector: u8,
-    reason: u8,
-    reciprocal: u16,
-    missed: Missed,
-    subject: Subject,
-    order: Order,
-) -> Plain
-    ensures { result ≡ plain_with vector reason reciprocal missed subject order }
-{
-    Plain {
-        vector,
-        reason,
-        reciprocal,
-        missed,
-        subject,
-        order,
-        destination: NO_DESTINATION,
-        parameters: NO_PARAMETERS,
+    fn from(m: Membership) -> Subject {
+        Subject {
+            cid: m.leader,
+            reliable: m.reliable.0,
+            channel: m.channel,
+            mid: m.mid,
+        }
     }
 }
 
-fn subject_of(cid: Cid, channel: u16, mid: u16, reliable: u32) -> Subject
-    ensures { result ≡ subject cid channel mid reliable }
-{
-    Subject {
-        cid,
-        reliable,
-        channel,
-        mid,
+impl From<Subject> for Membership {
+    ghost from_gives = { λ s m. m ≡ member_of s };
+
+    fn from(s: Subject) -> Membership {
+        Membership {
+            leader: s.cid,
+            channel: s.channel,
+            mid: s.mid,
+            reliable: Reliable(s.reliable),
+        }
     }
 }
 
-fn member_subject(m: Membership) -> Subject
-    ensures { result ≡ member_subject m }
-{
-    let leader = m.leader;
-    subject_of(leader, m.channel, m.mid, m.reliable.0)
-}
-
-// A wrapper as numbers.
-pub fn wrapper_plain(vector: u8, w: Wrapper) -> Plain
+fn wrapper_plain(vector: u8, w: Wrapper) -> Plain
     ensures { result ≡ wrapper_plain vector w }
 {
-    let order = Order {
-        total: w.total.0,
-        oldest: w.oldest.0,
-        first: w.first,
-        last: w.last,
-        threshold: w.threshold,
-    };
-    plain_with(
+    Plain {
         vector,
-        0,
-        0,
-        NO_MISSED,
-        subject_of(NOBODY, w.channel, 0, w.reliable.0),
-        order,
-    )
+        subject: Subject {
+            reliable: w.reliable.0,
+            channel: w.channel,
+            ..EMPTY.subject
+        },
+        order: Order {
+            total: w.total.0,
+            oldest: w.oldest.0,
+            first: w.first,
+            last: w.last,
+            threshold: w.threshold,
+        },
+        ..EMPTY
+    }
 }
 
-// A Join as numbers, with its destination and its parameters.
-pub fn join_plain(j: Join, destination: Destination, parameters: Parameters) -> Plain
+// A Join with this destination and these parameters. Each address type calls this for itself: if they were chosen first, reading a message
+// would take 1.47 times the instructions of plain C, over the limit of 1.3 (bench/run).
+#[tactic(auto, unfolding(crate::specs::Messages::join_with))]
+fn join_with(j: Join, destination: Destination, parameters: Parameters) -> Plain
     ensures { result ≡ join_with j destination parameters }
 {
-    let cid = j.cid;
     Plain {
         vector: message::JOIN,
-        reason: 0,
         reciprocal: j.reciprocal,
-        missed: NO_MISSED,
-        subject: subject_of(cid, j.channel, j.mid, j.reliable.0),
+        subject: Subject {
+            cid: j.cid,
+            reliable: j.reliable.0,
+            channel: j.channel,
+            mid: j.mid,
+        },
         order: Order {
             total: j.total.0,
-            oldest: 0,
-            first: 0,
-            last: 0,
-            threshold: 0,
+            ..EMPTY.order
         },
         destination,
         parameters,
+        ..EMPTY
     }
 }
 
-// Join Accept, Join Refuse, Leaving or NAK as numbers; what the message does not have is 0.
-pub fn member_plain(vector: u8, m: Membership, reason: u8, reciprocal: u16, missed: Missed) -> Plain
-    ensures { result ≡ plain_with vector reason reciprocal missed (member_subject m) no_order }
-{
-    plain_with(
-        vector,
-        reason,
-        reciprocal,
-        missed,
-        member_subject(m),
-        NO_ORDER,
-    )
+impl From<Join> for Plain {
+    ghost from_gives = { λ j p. p ≡ join_plain j };
+
+    #[inline(always)]
+    #[tactic(auto, unfolding(crate::specs::Messages::join_plain))]
+    fn from(j: Join) -> Plain {
+        match j.address {
+            Address::Null(p) => join_with(j, EMPTY.destination, p),
+            Address::Ipv4(e, p) => {
+                let destination = Destination {
+                    host: e.host,
+                    port: e.port,
+                    kind: message::ADDRESS_IPV4,
+                };
+                join_with(j, destination, p)
+            }
+            Address::Other(kind) => {
+                let destination = Destination {
+                    kind,
+                    ..EMPTY.destination
+                };
+                join_with(j, destination, EMPTY.parameters)
+            }
+        }
+    }
 }
 
-pub fn ack_plain(r: Reliable) -> Plain
-    ensures { result ≡ plain_with ack 0 0 no_missed (subject nobody 0 0 r.0) no_order }
-{
-    plain_with(
-        message::ACK,
-        0,
-        0,
-        NO_MISSED,
-        subject_of(NOBODY, 0, 0, r.0),
-        NO_ORDER,
-    )
+impl From<Message> for Plain {
+    ghost from_gives = { λ m p. p ≡ plain_of m };
+
+    #[inline(always)]
+    #[tactic(auto, unfolding(crate::specs::Messages::plain_of))]
+    fn from(m: Message) -> Plain {
+        match m {
+            Message::ReliableWrapper(w) => wrapper_plain(message::RELIABLE_WRAPPER, w),
+            Message::UnreliableWrapper(w) => wrapper_plain(message::UNRELIABLE_WRAPPER, w),
+            Message::Join(j) => Plain::from(j),
+            Message::JoinRefuse { member, reason } => Plain {
+                vector: message::JOIN_REFUSE,
+                reason,
+                subject: Subject::from(member),
+                ..EMPTY
+            },
+            Message::JoinAccept { member, reciprocal } => Plain {
+                vector: message::JOIN_ACCEPT,
+                reciprocal,
+                subject: Subject::from(member),
+                ..EMPTY
+            },
+            Message::Leaving { member, reason } => Plain {
+                vector: message::LEAVING,
+                reason,
+                subject: Subject::from(member),
+                ..EMPTY
+            },
+            Message::Ack(r) => Plain {
+                vector: message::ACK,
+                subject: Subject {
+                    reliable: r.0,
+                    ..EMPTY.subject
+                },
+                ..EMPTY
+            },
+            Message::Nak {
+                member,
+                first,
+                last,
+            } => Plain {
+                vector: message::NAK,
+                missed: Missed {
+                    first: first.0,
+                    last: last.0,
+                },
+                subject: Subject::from(member),
+                ..EMPTY
+            },
+            Message::GetSessions(cid) => Plain {
+                vector: message::GET_SESSIONS,
+                subject: Subject {
+                    cid,
+                    ..EMPTY.subject
+                },
+                ..EMPTY
+            },
+        }
+    }
 }
 
-pub fn sessions_plain(cid: Cid) -> Plain
-    ensures { result ≡ plain_with get_sessions 0 0 no_missed (subject cid 0 0 0) no_order }
-{
-    plain_with(
-        message::GET_SESSIONS,
-        0,
-        0,
-        NO_MISSED,
-        subject_of(cid, 0, 0, 0),
-        NO_ORDER,
-    )
-}
-
-#[tactic(auto, using(crate::proofs::Arms::arms))]
+#[tactic(auto, unfolding(crate::specs::Messages::address_of))]
 fn address_of(d: Destination, p: Parameters) -> Address
     ensures { result ≡ address_of d p }
 {
-    let kind = d.kind;
-    if kind == message::ADDRESS_NULL {
-        return Address::Null(p);
-    }
-    if kind == message::ADDRESS_IPV4 {
-        return Address::Ipv4(
+    match d.kind {
+        message::ADDRESS_NULL => Address::Null(p),
+        message::ADDRESS_IPV4 => Address::Ipv4(
             Endpoint {
                 port: d.port,
                 host: d.host,
             },
             p,
-        );
-    }
-    Address::Other(kind)
-}
-
-fn member_of(s: Subject) -> Membership
-    ensures { result ≡ member_of s }
-{
-    let leader = s.cid;
-    Membership {
-        leader,
-        channel: s.channel,
-        mid: s.mid,
-        reliable: Reliable(s.reliable),
+        ),
+        kind => Address::Other(kind),
     }
 }
 
@@ -267,62 +287,48 @@ fn wrapper_of(s: Subject, o: Order) -> Wrapper
 fn join_of(p: Plain) -> Join
     ensures { result ≡ join_of p }
 {
-    let s = p.subject;
-    let cid = s.cid;
-    let d = p.destination;
-    let parameters = p.parameters;
     Join {
-        cid,
-        mid: s.mid,
-        channel: s.channel,
+        cid: p.subject.cid,
+        mid: p.subject.mid,
+        channel: p.subject.channel,
         reciprocal: p.reciprocal,
         total: Total(p.order.total),
-        reliable: Reliable(s.reliable),
-        address: address_of(d, parameters),
+        reliable: Reliable(p.subject.reliable),
+        address: address_of(p.destination, p.parameters),
     }
 }
 
-// The message that a struct of numbers is.
+// The message that a struct of numbers is, or none if its vector is not one of the nine.
 #[inline(always)]
-pub fn typed_of(p: Plain) -> Typed
+#[tactic(auto, unfolding(crate::specs::Messages::typed_of))]
+pub fn typed_of(p: Plain) -> Option<Message>
     ensures { result ≡ typed_of p }
 {
-    let vector = p.vector;
-    let s = p.subject;
-    let o = p.order;
-    match vector {
-        message::RELIABLE_WRAPPER => Typed::Is(Message::ReliableWrapper(wrapper_of(s, o))),
-        message::UNRELIABLE_WRAPPER => Typed::Is(Message::UnreliableWrapper(wrapper_of(s, o))),
-        message::JOIN => Typed::Is(Message::Join(join_of(p))),
-        message::JOIN_REFUSE => Typed::Is(Message::JoinRefuse {
-            member: member_of(s),
+    match p.vector {
+        message::RELIABLE_WRAPPER => Some(Message::ReliableWrapper(wrapper_of(p.subject, p.order))),
+        message::UNRELIABLE_WRAPPER => Some(Message::UnreliableWrapper(wrapper_of(
+            p.subject, p.order,
+        ))),
+        message::JOIN => Some(Message::Join(join_of(p))),
+        message::JOIN_REFUSE => Some(Message::JoinRefuse {
+            member: Membership::from(p.subject),
             reason: p.reason,
         }),
-        message::JOIN_ACCEPT => Typed::Is(Message::JoinAccept {
-            member: member_of(s),
+        message::JOIN_ACCEPT => Some(Message::JoinAccept {
+            member: Membership::from(p.subject),
             reciprocal: p.reciprocal,
         }),
-        message::LEAVING => Typed::Is(Message::Leaving {
-            member: member_of(s),
+        message::LEAVING => Some(Message::Leaving {
+            member: Membership::from(p.subject),
             reason: p.reason,
         }),
-        message::ACK => Typed::Is(Message::Ack(Reliable(s.reliable))),
-        message::NAK => Typed::Is(Message::Nak {
-            member: member_of(s),
+        message::ACK => Some(Message::Ack(Reliable(p.subject.reliable))),
+        message::NAK => Some(Message::Nak {
+            member: Membership::from(p.subject),
             first: Reliable(p.missed.first),
             last: Reliable(p.missed.last),
         }),
-        message::GET_SESSIONS => {
-            let cid = s.cid;
-            Typed::Is(Message::GetSessions(cid))
-        }
-        _ => Typed::Unknown,
+        message::GET_SESSIONS => Some(Message::GetSessions(p.subject.cid)),
+        _ => None,
     }
-}
-
-// No message: every number is 0.
-pub fn empty() -> Plain
-    ensures { result ≡ no_message }
-{
-    plain_with(0, 0, 0, NO_MISSED, subject_of(NOBODY, 0, 0, 0), NO_ORDER)
 }
