@@ -1,29 +1,19 @@
--- The leaves of the whole step, and that steps 2 to 4 let a record's terms stand, on which step 5 relies. Assumes nothing.
+-- Steps 2 to 4 let a record's terms stand, on which step 5 relies. Assumes nothing.
 use Prim.Native.Nat.{ℕ, ◌<◌}
 use mathlib.Core.Bool.{Bool, true, false, cond}
 use mathlib.Core.Path.{◌≡◌, refl, ◌∙◌}
+use Rattle.std.specs.Prelude.{Option, Some, None}
 use Rattle.record.specs.With.{with_numbers}
 use Rattle.record.specs.declared.Place.{Place}
 use Rattle.record.specs.declared.Record.{Record}
-use Rattle.wrapper.specs.Judge.{judged, heard}
+use Rattle.wrapper.specs.Judge.{heard}
 use Rattle.wrapper.specs.Hold.{next_one, place_for, put_in, placed}
 use Rattle.wrapper.specs.Release.{release_by, release_at, released}
-use Rattle.wrapper.specs.Settle.{settled}
-use Rattle.wrapper.specs.Taken.{plan_of, taken, refused, stepped}
 use Rattle.wrapper.specs.declared.Arrived.{Arrived}
-use Rattle.wrapper.specs.declared.Judged.{Judged}
-use Rattle.wrapper.specs.declared.Judged.TheVariants.{Old, Inconsistent, Fresh}
 use Rattle.wrapper.specs.declared.Fate.TheVariants as fate
-use Rattle.wrapper.specs.declared.Search.{Search}
-use Rattle.wrapper.specs.declared.Search.TheVariants.{At, Nowhere}
 use Rattle.wrapper.specs.declared.Placed.{Placed}
 use Rattle.wrapper.specs.declared.Released.{Released}
-use Rattle.wrapper.specs.declared.Settled.{Settled}
-use Rattle.wrapper.specs.declared.Plan.{Plan}
-use Rattle.wrapper.specs.declared.Stepped.{Stepped}
 use Rattle.wrapper.proofs.Releasing.{held_at, passing, release_is, along}
-
--- ---- the terms stand
 
 pub placed_terms : (r : Record) (w : Arrived) → (placed r w).after.terms ≡ r.terms
 unfolding placed
@@ -32,10 +22,10 @@ placed_terms r w = by (next_one r w) (place_for w r.places)
     next : Placed
     next = record { after = with_numbers r w.total w.reliable; fate = fate.Delivered }
 
-    by : (b : Bool) (f : Search) → (cond b next (put_in r w f)).after.terms ≡ r.terms
+    by : (b : Bool) (f : Option ℕ) → (cond b next (put_in r w f)).after.terms ≡ r.terms
     by true f = refl
-    by false (At i) = refl
-    by false Nowhere = refl
+    by false (Some i) = refl
+    by false None = refl
 
 by_terms : (b : Bool) (s : Released) (i : ℕ) (p : Place) → (release_by b s i p).after.terms ≡ s.after.terms
 by_terms true s i p = refl
@@ -47,8 +37,6 @@ release_terms s i = rw (release_is s i) (by_terms (passing s i) s i (held_at s i
 pub released_terms : (r : Record) → (released r).after.terms ≡ r.terms
 unfolding released
 released_terms r = along (λ s. s.after.terms ≡ r.terms) (λ s i e h. release_terms s i ∙ h) 4 _ refl
-
--- ---- steps 2 to 6
 
 module _
     (r h : Record)
@@ -65,29 +53,3 @@ module _
 
     pub released_modulus : 0 < p.after.terms.modulus → 0 < s.after.terms.modulus
     released_modulus z = rw (g, released_terms p.after) z
-
-    pub taken_so : (l : Settled) → l ≡ settled s.after w → plan_of p.fate s l ≡ taken r w
-    unfolding taken
-    taken_so l k = rw (k, g, f, e)
-
-pub ruleset steps = (placed_modulus, released_modulus, taken_so)
-
--- ---- the whole step
-
-both_parts : (s : Stepped) (n : ℕ) (p : Plan) → s.number ≡ n → s.plan ≡ p → s ≡ (record { number = n; plan = p })
-both_parts s n p e f = rw (← e, ← f)
-
-module _ (r : Record) (w : Arrived) (j : Judged) (e : j ≡ judged r w.reliably w.total w.reliable) where
-  pub stepped_old : (s : Stepped) → j ≡ Old → (s.number ≡ 8) × (s.plan ≡ refused r) → s ≡ stepped r w
-  unfolding stepped
-  stepped_old s t f = rw (← e, t) (both_parts s 8 (refused r) f.0 f.1)
-
-  pub stepped_inconsistent : (s : Stepped) → j ≡ Inconsistent → (s.number ≡ 9) × (s.plan ≡ refused r) → s ≡ stepped r w
-  unfolding stepped
-  stepped_inconsistent s t f = rw (← e, t) (both_parts s 9 (refused r) f.0 f.1)
-
-  pub stepped_fresh : (p : Plan) → j ≡ Fresh → p ≡ taken r w → ◌≡◌ {A = Stepped} (record { number = 0; plan = p }) (stepped r w)
-  unfolding stepped
-  stepped_fresh p t f = rw (← e, t, f)
-
-pub ruleset whole = (stepped_old, stepped_inconsistent, stepped_fresh)
