@@ -1,6 +1,7 @@
 // One channel's record: what it holds, the profile's numbers, and whether it is well formed.
 #![tactic(auto)]
 
+mod reasons;
 mod searches;
 
 ghost use Rattle.std.specs.Prelude.{◌≡◌};
@@ -11,11 +12,8 @@ ghost use Rattle.record.specs.WellFormed.{closed, held_right, apart, apart_from,
 
 use counter::{Counter, Reliable, Total};
 use message::{Cid, MOST_CONTENTS};
-pub use searches::lowest;
-
-mod reasons;
-
 pub use reasons::{NoReason, Reason, is_leaving_reason};
+pub use searches::lowest;
 
 // The phase of a gap, with its time left in milliseconds and the number of NAKs sent.
 #[derive(Clone, Copy, Debug, PartialEq, Eq)]

@@ -3,7 +3,7 @@ ghost use Rattle.std.specs.Prelude.{◌≡◌, ◌<◌, IfSome};
 ghost use Rattle.wrapper.specs.Hold.{next_one, holds, place_for, placed};
 
 use crate::{Arrived, Fate, Placed};
-use counter::{Reliable, reliable_distance, same_reliable};
+use counter::{Counter, Reliable};
 use record::{Place, Record, lowest};
 
 // Whether the wrapper is the next one.
@@ -11,7 +11,7 @@ use record::{Place, Record, lowest};
 fn is_next_one(r: Record, w: Arrived) -> bool
     ensures { result ≡ next_one r w }
 {
-    let e = reliable_distance(r.reliable, w.reliable);
+    let e = r.reliable.distance_to(w.reliable);
     if w.reliably {
         return e == 1;
     }
@@ -23,9 +23,7 @@ fn is_next_one(r: Record, w: Arrived) -> bool
 fn is_held(n: Reliable, places: &[Place]) -> bool
     ensures { result ≡ holds n places.now }
 {
-    places
-        .iter()
-        .any(|p| p.used && same_reliable(p.reliable, n))
+    places.iter().any(|p| p.used && p.reliable == n)
 }
 
 // Where a wrapper is held.

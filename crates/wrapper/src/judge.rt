@@ -2,7 +2,7 @@
 ghost use Rattle.std.specs.Prelude.{◌≡◌};
 ghost use Rattle.wrapper.specs.Judge.{consistent, judged, farther, heard};
 
-use counter::{Reliable, Total, reliable_distance, total_distance};
+use counter::{Counter, Reliable, Total};
 use record::Record;
 use refusal::Refusal;
 
@@ -22,11 +22,11 @@ fn is_consistent(reliably: bool, d: i32, e: i32) -> bool
 pub fn judge(r: Record, reliably: bool, total: Total, reliable: Reliable) -> Result<(), Refusal>
     ensures { result ≡ judged r reliably total reliable }
 {
-    let d = total_distance(r.total, total);
+    let d = r.total.distance_to(total);
     if d <= 0 {
         return Err(Refusal::Old);
     }
-    if !is_consistent(reliably, d, reliable_distance(r.reliable, reliable)) {
+    if !is_consistent(reliably, d, r.reliable.distance_to(reliable)) {
         return Err(Refusal::Inconsistent);
     }
     Ok(())
@@ -37,7 +37,7 @@ pub fn judge(r: Record, reliably: bool, total: Total, reliable: Reliable) -> Res
 fn farther_of(reliable: Reliable, known: Reliable, n: Reliable) -> Reliable
     ensures { result ≡ farther reliable known n }
 {
-    if reliable_distance(reliable, known) < reliable_distance(reliable, n) {
+    if reliable.distance_to(known) < reliable.distance_to(n) {
         return n;
     }
     known

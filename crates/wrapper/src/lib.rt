@@ -6,11 +6,11 @@ mod judge;
 mod release;
 mod settle;
 
-ghost use Rattle.std.specs.Prelude.{◌≡◌, ◌<◌};
+ghost use Rattle.std.specs.Prelude.{◌≡◌};
 ghost use Rattle.wrapper.specs.Taken.{taken, stepped};
 
 use counter::{Reliable, Total};
-use record::Record;
+use record::{Reason, Record};
 use refusal::Refusal;
 
 // A wrapper that has arrived: `reliably` if it is a reliable one, its numbers, and the length of its contents.
@@ -45,6 +45,7 @@ pub struct Placed {
 #[derive(Clone, Copy)]
 pub struct Released {
     pub after: Record,
+    // An array with its count beside it, here and in `Plan`: the library has no heap.
     pub order: [usize; 4],
     pub count: usize,
     pub thrown: usize,
@@ -55,7 +56,7 @@ pub struct Released {
 pub enum Reply {
     Nothing,
     Ack(Reliable),
-    Leaving(u8, Reliable),
+    Leaving(Reason, Reliable),
 }
 
 // A record after step 6.
@@ -79,7 +80,6 @@ pub struct Plan {
 // Steps 2 to 6.
 #[tactic(auto, unfolding(crate::specs::Taken::taken))]
 fn take_wrapper(r: Record, w: Arrived) -> Plan
-    requires { 0 < r.terms.modulus }
     ensures { result ≡ taken r w }
 {
     let placed = hold::place_wrapper(judge::hear(r, w.reliable), w);
@@ -99,7 +99,6 @@ fn take_wrapper(r: Record, w: Arrived) -> Plan
 // The step of a record by a wrapper.
 #[tactic(auto, unfolding(crate::specs::Taken::stepped))]
 pub fn wrapper_step(r: Record, w: Arrived) -> Result<Plan, Refusal>
-    requires { 0 < r.terms.modulus }
     ensures { result ≡ stepped r w }
 {
     judge::judge(r, w.reliably, w.total, w.reliable)?;

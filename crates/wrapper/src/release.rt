@@ -4,14 +4,14 @@ ghost use Rattle.wrapper.specs.Release.{is_next, release_at, released};
 
 use crate::Released;
 use crate::judge::judge;
-use counter::{Reliable, reliable_distance};
-use record::{Place, Record, free_place, lowest};
+use counter::{Counter, Reliable};
+use record::{Place, Record, lowest};
 
 // Whether a place holds a wrapper at distance 1 from R.
 fn is_next(reliable: Reliable, p: Place) -> bool
     ensures { result ≡ is_next reliable p }
 {
-    p.used && reliable_distance(reliable, p.reliable) == 1
+    p.used && reliable.distance_to(p.reliable) == 1
 }
 
 // Delivers the wrapper of place `i`, or throws it out if it is judged old; its place is free.
@@ -22,7 +22,7 @@ fn release_at(s: Released, i: usize) -> Released
 {
     let p = s.after.places[i];
     let mut after = s.after;
-    after.places[i] = free_place(p);
+    after.places[i] = p.freed();
     if judge(s.after, true, p.total, p.reliable).is_err() {
         return Released {
             after,

@@ -1,18 +1,18 @@
 // Steps 5 and 6 of a wrapper (specs/Settle): quiet, lost or standoff, and the ACK.
-ghost use Rattle.std.specs.Prelude.{◌≡◌, ◌<◌};
+ghost use Rattle.std.specs.Prelude.{◌≡◌};
 ghost use Rattle.wrapper.specs.Settle.{lost, begun, gapped, asked, spared, acknowledged, settled};
 
 use crate::{Arrived, Reply, Settled};
-use counter::{Reliable, reliable_distance, threshold_number};
+use counter::{Counter, Reliable};
 use gap::standoff_of;
-use record::{Gap, Record, free_record, is_closed, with_gap};
+use record::{Gap, Reason, Record};
 
 // Whether what is missing can no longer be had.
 #[tactic(auto, unfolding(crate::specs::Settle::lost))]
 fn is_lost(r: Record, oldest: Reliable) -> bool
     ensures { result ≡ lost r oldest }
 {
-    2 <= reliable_distance(r.reliable, oldest)
+    2 <= r.reliable.distance_to(oldest)
 }
 
 // The standoff of a quiet channel; a phase that runs goes on.
@@ -31,16 +31,15 @@ fn begin(gap: Gap, time: u32) -> Gap
 // Step 5: the record with its gap, or none if what is missing is lost.
 #[tactic(auto, unfolding(crate::specs::Settle::gapped))]
 fn gap_step(r: Record, oldest: Reliable) -> Option<Record>
-    requires { 0 < r.terms.modulus }
     ensures { result ≡ gapped r oldest }
 {
-    if is_closed(r) {
-        return Some(with_gap(r, Gap::Quiet));
+    if r.is_closed() {
+        return Some(r.with_gap(Gap::Quiet));
     }
     if is_lost(r, oldest) {
         return None;
     }
-    Some(with_gap(r, begin(r.gap, standoff_of(r))))
+    Some(r.with_gap(begin(r.gap, standoff_of(r))))
 }
 
 // Whether the wrapper asks this member for an ACK.
@@ -56,7 +55,7 @@ fn is_asked(r: Record, w: Arrived) -> bool
 fn is_spared(r: Record, w: Arrived) -> bool
     ensures { result ≡ spared r w }
 {
-    w.threshold != 0 && 1 <= reliable_distance(threshold_number(w.reliable, w.threshold), r.acked)
+    w.threshold != 0 && 1 <= w.reliable.before(w.threshold).distance_to(r.acked)
 }
 
 // Step 6.
@@ -82,14 +81,13 @@ fn acknowledge(r: Record, w: Arrived) -> Settled
 // Steps 5 and 6: a channel that is left sends Leaving, and no ACK.
 #[tactic(auto, unfolding(crate::specs::Settle::settled))]
 pub fn settle(r: Record, w: Arrived) -> Settled
-    requires { 0 < r.terms.modulus }
     ensures { result ≡ settled r w }
 {
     match gap_step(r, w.oldest) {
         Some(after) => acknowledge(after, w),
         None => Settled {
-            after: free_record(r),
-            reply: Reply::Leaving(record::LOST_SEQUENCE, r.reliable),
+            after: r.freed(),
+            reply: Reply::Leaving(Reason::LostSequence, r.reliable),
         },
     }
 }
