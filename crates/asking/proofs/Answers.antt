@@ -1,10 +1,11 @@
 -- The leaves of the definitions of specs/, over plain variables. Assumes nothing.
 use Prim.Native.Nat.{ℕ, ◌-◌, ◌<◌, ◌≤◌}
-use mathlib.Core.Bool.{Bool, true, false, not}
+use mathlib.Core.Bool.{Bool, true, false}
 use mathlib.Core.List.{List}
 use mathlib.Core.Path.{◌≡◌, refl}
+use Rattle.std.specs.Prelude.{Option, Some, None, Result, Ok, Err}
 use lib.ListN.{length, length-drop}
-use borrow.Author.Tests.{not-true, not-false, lt-ltb, le-ltb}
+use borrow.Author.Tests.{lt-ltb, le-ltb}
 use Rattle.counter.specs.declared.Reliable.{Reliable}
 use Rattle.message.specs.Reading.{read_message}
 use Rattle.message.specs.declared.Cid.{Cid}
@@ -16,51 +17,38 @@ use Rattle.message.specs.declared.MessageRead.{MessageRead}
 use Rattle.message.specs.declared.MessageRead.TheVariants.{Read, Unreadable}
 use Rattle.record.specs.WellFormed.{most_contents}
 use Rattle.record.specs.declared.Record.{Record}
+use Rattle.refusal.specs.declared.Refusal.{Refusal}
+use Rattle.refusal.specs.declared.Refusal.TheVariants as refusal
 use Rattle.wrapper.specs.declared.Arrived.{Arrived}
-use Rattle.table.specs.Table.{same, found}
-use Rattle.table.specs.declared.Found.{Found}
-use Rattle.table.specs.declared.Found.TheVariants.{At, Nowhere}
+use Rattle.table.specs.Table.{found}
 use Rattle.asking.specs.Asking.{arrived_of, wrapper_asks, join_asks, message_asks, asked_of}
 use Rattle.asking.specs.declared.Asked.{Asked}
 use Rattle.asking.specs.declared.Asked.TheVariants as asked
 
 -- ---- a wrapper
 
-module _ (ts : List Record) (s : Cid) (b : Bool) (w : Wrapper) (n : ℕ) (f : Found) (e : f ≡ found 0 s w.channel ts) where
-  pub wrapper_unknown : f ≡ Nowhere → asked.Refused 6 ≡ wrapper_asks ts s b w n
+module _ (ts : List Record) (s : Cid) (b : Bool) (w : Wrapper) (n : ℕ) (f : Option ℕ) (e : f ≡ found 0 s w.channel ts) where
+  pub wrapper_unknown : f ≡ None → Err refusal.NoRecord ≡ wrapper_asks ts s b w n
   unfolding wrapper_asks
   wrapper_unknown u = rw (← e, u)
 
-  module _ (i : ℕ) (u : f ≡ At i) where
-    pub wrapper_long : most_contents < n → asked.Refused 7 ≡ wrapper_asks ts s b w n
+  module _ (i : ℕ) (u : f ≡ Some i) where
+    pub wrapper_long : most_contents < n → Err refusal.ContentsOver ≡ wrapper_asks ts s b w n
     unfolding wrapper_asks
     wrapper_long h = rw (← e, u, lt-ltb most_contents n h)
 
-    pub wrapper_fits : n ≤ most_contents → (a : Arrived) → a ≡ arrived_of b w n → asked.Wrapper i a ≡ wrapper_asks ts s b w n
+    pub wrapper_fits : n ≤ most_contents → (a : Arrived) → a ≡ arrived_of b w n → Ok (asked.Wrapper i a) ≡ wrapper_asks ts s b w n
     unfolding wrapper_asks
     wrapper_fits h a q = rw (← e, u, le-ltb most_contents n h, q)
 
 pub ruleset wrappers = (wrapper_unknown, wrapper_long, wrapper_fits)
-
--- ---- a Join
-
-module _ (o : Cid) (j : Join) (b : Bool) (e : b ≡ same j.cid o) where
-  pub join_other : not b ≡ true → asked.Refused 5 ≡ join_asks o j
-  unfolding join_asks
-  join_other t = rw (← e, not-true b t)
-
-  pub join_ours : not b ≡ false → asked.Join j ≡ join_asks o j
-  unfolding join_asks
-  join_ours t = rw (← e, not-false b t)
-
-pub ruleset joins = (join_other, join_ours)
 
 -- ---- a message
 
 module _ (ts : List Record) (s o : Cid) where
   -- a message that is neither a wrapper nor a Join nor an ACK
   other_asks : (m : Message) (n : ℕ) → ((w : Wrapper) → m ≡ message.ReliableWrapper w → ⊥) → ((w : Wrapper) → m ≡ message.UnreliableWrapper w → ⊥)
-      → ((j : Join) → m ≡ message.Join j → ⊥) → ((r : Reliable) → m ≡ message.Ack r → ⊥) → asked.Refused 5 ≡ message_asks ts s o m n
+      → ((j : Join) → m ≡ message.Join j → ⊥) → ((r : Reliable) → m ≡ message.Ack r → ⊥) → Err refusal.NotForUs ≡ message_asks ts s o m n
   other_asks (message.ReliableWrapper w) n a b c d = absurd (a w refl)
   other_asks (message.UnreliableWrapper w) n a b c d = absurd (b w refl)
   other_asks (message.Join j) n a b c d = absurd (c j refl)
@@ -73,7 +61,7 @@ module _ (ts : List Record) (s o : Cid) where
 
   module _ (v : ℕ) (d : List ℕ) where
     module _ (r : MessageRead) (e : r ≡ read_message v d) where
-      pub asks_unreadable : r ≡ Unreadable → asked.Refused 4 ≡ asked_of ts s o v d
+      pub asks_unreadable : r ≡ Unreadable → Err refusal.NoForm ≡ asked_of ts s o v d
       unfolding asked_of
       asks_unreadable f = rw (← e, f)
 
@@ -82,22 +70,22 @@ module _ (ts : List Record) (s o : Cid) where
         unfolding asked_of
         asks_read = rw (← e, f, length-drop 20 d)
 
-        pub asks_reliable : (w : Wrapper) → m ≡ message.ReliableWrapper w → (a : Asked) → a ≡ wrapper_asks ts s true w (length d - 20)
+        pub asks_reliable : (w : Wrapper) → m ≡ message.ReliableWrapper w → (a : Result Asked Refusal) → a ≡ wrapper_asks ts s true w (length d - 20)
             → a ≡ asked_of ts s o v d
         asks_reliable w g a h = rw (asks_read, g, h)
 
-        pub asks_unreliable : (w : Wrapper) → m ≡ message.UnreliableWrapper w → (a : Asked) → a ≡ wrapper_asks ts s false w (length d - 20)
+        pub asks_unreliable : (w : Wrapper) → m ≡ message.UnreliableWrapper w → (a : Result Asked Refusal) → a ≡ wrapper_asks ts s false w (length d - 20)
             → a ≡ asked_of ts s o v d
         asks_unreliable w g a h = rw (asks_read, g, h)
 
-        pub asks_join : (j : Join) → m ≡ message.Join j → (a : Asked) → a ≡ join_asks o j → a ≡ asked_of ts s o v d
+        pub asks_join : (j : Join) → m ≡ message.Join j → (a : Result Asked Refusal) → a ≡ join_asks o j → a ≡ asked_of ts s o v d
         asks_join j g a h = rw (asks_read, g, h)
 
-        pub asks_ack : (r : Reliable) → m ≡ message.Ack r → asked.Refused 4 ≡ asked_of ts s o v d
+        pub asks_ack : (r : Reliable) → m ≡ message.Ack r → Err refusal.NoForm ≡ asked_of ts s o v d
         asks_ack r g = rw (asks_read, g)
 
         pub asks_other : ((w : Wrapper) → m ≡ message.ReliableWrapper w → ⊥) → ((w : Wrapper) → m ≡ message.UnreliableWrapper w → ⊥)
-            → ((j : Join) → m ≡ message.Join j → ⊥) → ((r : Reliable) → m ≡ message.Ack r → ⊥) → asked.Refused 5 ≡ asked_of ts s o v d
+            → ((j : Join) → m ≡ message.Join j → ⊥) → ((r : Reliable) → m ≡ message.Ack r → ⊥) → Err refusal.NotForUs ≡ asked_of ts s o v d
         asks_other a b c k = rw asks_read (other_asks m (length d - 20) a b c k)
 
 pub ruleset messages = (asks_unreadable, asks_reliable, asks_unreliable, asks_join, asks_ack, asks_other)

@@ -5,6 +5,7 @@ use mathlib.Core.List.{List}
 use mathlib.Core.Path.{◌≡◌, refl}
 use native.Mathlib.Omega.{arith}
 use lib.Dec.{ltb, eqb}
+use Rattle.std.specs.Prelude.{Option, Some, None, Ok, Err}
 use lib.ListN.{length}
 use borrow.Author.Tests.{ltb-false}
 use Rattle.message.specs.Lengths.{reliable_wrapper}
@@ -18,10 +19,10 @@ use Rattle.message.specs.declared.MessageRead.{MessageRead}
 use Rattle.message.specs.declared.MessageRead.TheVariants.{Read, Unreadable}
 use Rattle.record.specs.WellFormed.{most_contents}
 use Rattle.record.specs.declared.Record.{Record}
+use Rattle.refusal.specs.declared.Refusal.{Refusal}
+use Rattle.refusal.specs.declared.Refusal.TheVariants as refusal
 use Rattle.wrapper.specs.declared.Arrived.{Arrived}
 use Rattle.table.specs.Table.{same, named, found, record_at}
-use Rattle.table.specs.declared.Found.{Found}
-use Rattle.table.specs.declared.Found.TheVariants.{At, Nowhere}
 use Rattle.table.proofs.Finding.{found_at_lem}
 use Rattle.table.proofs.Tables.{named_is}
 use Rattle.asking.specs.Asking.{arrived_of, wrapper_for, wrapper_asks, join_asks, read_asks, asked_of}
@@ -30,7 +31,7 @@ use Rattle.asking.proofs.Wrappers.{reliable_read, unreliable_read}
 
 -- data d of vector v, from s, asks for a step of record i by w
 pub record Step (ts : List Record) (s : Cid) (v : ℕ) (d : List ℕ) (i : ℕ) (w : Arrived) : Type 0 where
-  pub finds : found 0 s (wrapper_of d).channel ts ≡ At i
+  pub finds : found 0 s (wrapper_of d).channel ts ≡ Some i
   pub within : i < length ts
   pub used : (record_at ts i).used ≡ true
   pub named : named s (wrapper_of d).channel (record_at ts i) ≡ true
@@ -40,33 +41,33 @@ pub record Step (ts : List Record) (s : Cid) (v : ℕ) (d : List ℕ) (i : ℕ) 
   pub own : 20 ≤ length d
 
 module _ (ts : List Record) (s o : Cid) (i : ℕ) (w : Arrived) where
-  refused_is_none : (n : ℕ) → asked.Refused n ≡ asked.Wrapper i w → ⊥
+  refused_is_none : (n : Refusal) → Err n ≡ Ok (asked.Wrapper i w) → ⊥
   refused_is_none n e = let z : ◌≡◌ {A = ℕ} 0 1 = cc in omega arith
 
-  join_is_none : (j : Join) → join_asks o j ≡ asked.Wrapper i w → ⊥
+  join_is_none : (j : Join) → join_asks o j ≡ Ok (asked.Wrapper i w) → ⊥
   unfolding join_asks
   join_is_none j = by (same j.cid o)
     where
-      by : (b : Bool) → cond b (asked.Join j) (asked.Refused 5) ≡ asked.Wrapper i w → ⊥
+      by : (b : Bool) → cond b (Ok (asked.Join j)) (Err refusal.NotForUs) ≡ Ok (asked.Wrapper i w) → ⊥
       by true e = let z : ◌≡◌ {A = ℕ} 0 1 = cc in omega arith
-      by false e = refused_is_none 5 e
+      by false e = refused_is_none refusal.NotForUs e
 
   -- a wrapper asks for a step of the record that it found, and its contents fit
-  wrapper_step_lem : (b : Bool) (x : Wrapper) (n : ℕ) → wrapper_asks ts s b x n ≡ asked.Wrapper i w
-      → (found 0 s x.channel ts ≡ At i) × (n ≤ most_contents) × (w ≡ arrived_of b x n)
+  wrapper_step_lem : (b : Bool) (x : Wrapper) (n : ℕ) → wrapper_asks ts s b x n ≡ Ok (asked.Wrapper i w)
+      → (found 0 s x.channel ts ≡ Some i) × (n ≤ most_contents) × (w ≡ arrived_of b x n)
   unfolding wrapper_asks
   wrapper_step_lem b x n e = by (found 0 s x.channel ts) (ltb most_contents n) refl refl e
     where
-      by : (f : Found) (t : Bool) → found 0 s x.channel ts ≡ f → ltb most_contents n ≡ t → wrapper_for f b x n ≡ asked.Wrapper i w
-          → (found 0 s x.channel ts ≡ At i) × (n ≤ most_contents) × (w ≡ arrived_of b x n)
-      by Nowhere t g h e = absurd (refused_is_none 6 e)
-      by (At j) true g h e = absurd (refused_is_none 7 (rw h at e))
-      by (At j) false g h e =
-          let q : asked.Wrapper j (arrived_of b x n) ≡ asked.Wrapper i w = rw h at e in
+      by : (f : Option ℕ) (t : Bool) → found 0 s x.channel ts ≡ f → ltb most_contents n ≡ t → wrapper_for f b x n ≡ Ok (asked.Wrapper i w)
+          → (found 0 s x.channel ts ≡ Some i) × (n ≤ most_contents) × (w ≡ arrived_of b x n)
+      by None t g h e = absurd (refused_is_none refusal.NoRecord e)
+      by (Some j) true g h e = absurd (refused_is_none refusal.ContentsOver (rw h at e))
+      by (Some j) false g h e =
+          let q : Ok (asked.Wrapper j (arrived_of b x n)) ≡ Ok (asked.Wrapper i w) = rw h at e in
           (cc, ltb-false most_contents n h, cc)
 
   module _ (v : ℕ) (d : List ℕ) where
-    step : (b : Bool) → eqb v reliable_wrapper ≡ b → 20 ≤ length d → wrapper_asks ts s b (wrapper_of d) (length (contents d)) ≡ asked.Wrapper i w
+    step : (b : Bool) → eqb v reliable_wrapper ≡ b → 20 ≤ length d → wrapper_asks ts s b (wrapper_of d) (length (contents d)) ≡ Ok (asked.Wrapper i w)
         → Step ts s v d i w
     step b k l e =
         let q = wrapper_step_lem b (wrapper_of d) (length (contents d)) e in
@@ -83,12 +84,12 @@ module _ (ts : List Record) (s o : Cid) (i : ℕ) (w : Arrived) where
           own = l;
         }
 
-    pub asked_wrapper : asked_of ts s o v d ≡ asked.Wrapper i w → Step ts s v d i w
+    pub asked_wrapper : asked_of ts s o v d ≡ Ok (asked.Wrapper i w) → Step ts s v d i w
     unfolding asked_of
     asked_wrapper e = from (read_message v d) refl e
       where
-        from : (r : MessageRead) → read_message v d ≡ r → read_asks ts s o r (length (contents d)) ≡ asked.Wrapper i w → Step ts s v d i w
-        from Unreadable g e = absurd (refused_is_none 4 e)
+        from : (r : MessageRead) → read_message v d ≡ r → read_asks ts s o r (length (contents d)) ≡ Ok (asked.Wrapper i w) → Step ts s v d i w
+        from Unreadable g e = absurd (refused_is_none refusal.NoForm e)
         from (Read (message.ReliableWrapper x)) g e =
             let q = reliable_read v d x g in
             step true (rw q.0) q.2 (rw (← q.1) e)
@@ -96,9 +97,9 @@ module _ (ts : List Record) (s o : Cid) (i : ℕ) (w : Arrived) where
             let q = unreliable_read v d x g in
             step false (rw q.0) q.2 (rw (← q.1) e)
         from (Read (message.Join j)) g e = absurd (join_is_none j e)
-        from (Read (message.JoinRefuse m reason)) g e = absurd (refused_is_none 5 e)
-        from (Read (message.JoinAccept m reciprocal)) g e = absurd (refused_is_none 5 e)
-        from (Read (message.Leaving m reason)) g e = absurd (refused_is_none 5 e)
-        from (Read (message.Ack r)) g e = absurd (refused_is_none 4 e)
-        from (Read (message.Nak m first last)) g e = absurd (refused_is_none 5 e)
-        from (Read (message.GetSessions cid)) g e = absurd (refused_is_none 5 e)
+        from (Read (message.JoinRefuse m reason)) g e = absurd (refused_is_none refusal.NotForUs e)
+        from (Read (message.JoinAccept m reciprocal)) g e = absurd (refused_is_none refusal.NotForUs e)
+        from (Read (message.Leaving m reason)) g e = absurd (refused_is_none refusal.NotForUs e)
+        from (Read (message.Ack r)) g e = absurd (refused_is_none refusal.NoForm e)
+        from (Read (message.Nak m first last)) g e = absurd (refused_is_none refusal.NotForUs e)
+        from (Read (message.GetSessions cid)) g e = absurd (refused_is_none refusal.NotForUs e)

@@ -1,5 +1,5 @@
 -- What a message asks of the table (01, "Refusal numbers" 4 to 7): ts is the table, s the sender's CID and o ours.
-use Rattle.std.specs.Prelude.{ℕ, Bool, true, false, cond, List, length, ltb}
+use Rattle.std.specs.Prelude.{ℕ, Bool, true, false, cond, List, Option, Some, None, Result, Ok, Err, length, ltb}
 use Rattle.message.specs.Reading.{read_message, contents}
 use Rattle.message.specs.declared.Cid.{Cid}
 use Rattle.message.specs.declared.Join.{Join}
@@ -10,10 +10,10 @@ use Rattle.message.specs.declared.MessageRead.{MessageRead}
 use Rattle.message.specs.declared.MessageRead.TheVariants as read
 use Rattle.record.specs.WellFormed.{most_contents}
 use Rattle.record.specs.declared.Record.{Record}
+use Rattle.refusal.specs.declared.Refusal.{Refusal}
+use Rattle.refusal.specs.declared.Refusal.TheVariants as refusal
 use Rattle.wrapper.specs.declared.Arrived.{Arrived}
 use Rattle.table.specs.Table.{same, found}
-use Rattle.table.specs.declared.Found.{Found}
-use Rattle.table.specs.declared.Found.TheVariants as search
 use Rattle.asking.specs.declared.Asked.{Asked}
 use Rattle.asking.specs.declared.Asked.TheVariants as asked
 
@@ -32,35 +32,35 @@ arrived_of reliably w len =
     }
 
 -- 6 if the search found no record; 7 if it did and the contents are longer than a place; else a step of the record found
-abbrev pub wrapper_for : Found → Bool → Wrapper → ℕ → Asked
-wrapper_for search.Nowhere reliably w len = asked.Refused 6
-wrapper_for (search.At i) reliably w len = cond (ltb most_contents len) (asked.Refused 7) (asked.Wrapper i (arrived_of reliably w len))
+abbrev pub wrapper_for : Option ℕ → Bool → Wrapper → ℕ → Result Asked Refusal
+wrapper_for None reliably w len = Err refusal.NoRecord
+wrapper_for (Some i) reliably w len = cond (ltb most_contents len) (Err refusal.ContentsOver) (Ok (asked.Wrapper i (arrived_of reliably w len)))
 
 -- a wrapper belongs to the record of its sender and of the channel that it names
-unfoldable pub wrapper_asks : List Record → Cid → Bool → Wrapper → ℕ → Asked
+unfoldable pub wrapper_asks : List Record → Cid → Bool → Wrapper → ℕ → Result Asked Refusal
 wrapper_asks ts s reliably w len = wrapper_for (found 0 s w.channel ts) reliably w len
 
 -- 5 if a Join is meant for another component than ours
-unfoldable pub join_asks : Cid → Join → Asked
-join_asks o j = cond (same j.cid o) (asked.Join j) (asked.Refused 5)
+unfoldable pub join_asks : Cid → Join → Result Asked Refusal
+join_asks o j = cond (same j.cid o) (Ok (asked.Join j)) (Err refusal.NotForUs)
 
 -- 5 for every other base message. An ACK is readable but comes wrapped: it is no base message, and so 4. len is the length of a wrapper's contents
-abbrev pub message_asks : List Record → Cid → Cid → Message → ℕ → Asked
+abbrev pub message_asks : List Record → Cid → Cid → Message → ℕ → Result Asked Refusal
 message_asks ts s o (message.ReliableWrapper w) len = wrapper_asks ts s true w len
 message_asks ts s o (message.UnreliableWrapper w) len = wrapper_asks ts s false w len
 message_asks ts s o (message.Join j) len = join_asks o j
-message_asks ts s o (message.JoinRefuse m reason) len = asked.Refused 5
-message_asks ts s o (message.JoinAccept m reciprocal) len = asked.Refused 5
-message_asks ts s o (message.Leaving m reason) len = asked.Refused 5
-message_asks ts s o (message.Ack r) len = asked.Refused 4
-message_asks ts s o (message.Nak m first last) len = asked.Refused 5
-message_asks ts s o (message.GetSessions cid) len = asked.Refused 5
+message_asks ts s o (message.JoinRefuse m reason) len = Err refusal.NotForUs
+message_asks ts s o (message.JoinAccept m reciprocal) len = Err refusal.NotForUs
+message_asks ts s o (message.Leaving m reason) len = Err refusal.NotForUs
+message_asks ts s o (message.Ack r) len = Err refusal.NoForm
+message_asks ts s o (message.Nak m first last) len = Err refusal.NotForUs
+message_asks ts s o (message.GetSessions cid) len = Err refusal.NotForUs
 
 -- 4 for what cannot be read
-abbrev pub read_asks : List Record → Cid → Cid → MessageRead → ℕ → Asked
+abbrev pub read_asks : List Record → Cid → Cid → MessageRead → ℕ → Result Asked Refusal
 read_asks ts s o (read.Read m) len = message_asks ts s o m len
-read_asks ts s o read.Unreadable len = asked.Refused 4
+read_asks ts s o read.Unreadable len = Err refusal.NoForm
 
 -- v is the vector and d the data
-unfoldable pub asked_of : List Record → Cid → Cid → ℕ → List ℕ → Asked
+unfoldable pub asked_of : List Record → Cid → Cid → ℕ → List ℕ → Result Asked Refusal
 asked_of ts s o v d = read_asks ts s o (read_message v d) (length (contents d))

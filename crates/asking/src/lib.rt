@@ -1,4 +1,4 @@
-// What a message asks of the table: refused by 4 to 7, a Join, or a step of one record by a wrapper.
+// What a message asks of the table: a Join, or a step of one record by a wrapper; or it is refused by 4 to 7.
 #![tactic(auto)]
 
 ghost use Rattle.std.specs.Prelude.{◌≡◌, length};
@@ -8,16 +8,15 @@ ghost use Rattle.asking.specs.Asking.{arrived_of, wrapper_asks, join_asks, asked
 use message::{Cid, Join, MOST_CONTENTS, Message, MessageRead, Wrapper};
 use octets::u64_at;
 use record::Record;
-use table::Found;
+use refusal::Refusal;
 use wrapper::Arrived;
 
 // A wrapper's own fields; the rest of its data is its contents.
-const FIELDS: usize = 20;
+pub const FIELDS: usize = 20;
 
-// What a message asks of the table: nothing, as it is refused by 4 to 7; a Join; or a step of the record `at` by a wrapper.
+// What a message asks of the table: a Join, or a step of the record `at` by a wrapper.
 #[derive(Clone, Copy)]
 pub enum Asked {
-    Refused(u8),
     Join(Join),
     Wrapper { at: usize, arrived: Arrived },
 }
@@ -36,14 +35,11 @@ pub fn cid_of(s: &[u8]) -> Cid
 fn arrived_of(reliably: bool, w: Wrapper, len: u16) -> Arrived
     ensures { result ≡ arrived_of reliably w len }
 {
-    let total = w.total;
-    let reliable = w.reliable;
-    let oldest = w.oldest;
     Arrived {
         reliably,
-        total,
-        reliable,
-        oldest,
+        total: w.total,
+        reliable: w.reliable,
+        oldest: w.oldest,
         first: w.first,
         last: w.last,
         threshold: w.threshold,
@@ -52,44 +48,54 @@ fn arrived_of(reliably: bool, w: Wrapper, len: u16) -> Arrived
 }
 
 // Refusals 6 and 7 of a wrapper with contents of `len` octets.
-fn wrapper_asks(table: [Record; 8], sender: Cid, reliably: bool, w: Wrapper, len: usize) -> Asked
+fn wrapper_asks(
+    table: [Record; 8],
+    sender: Cid,
+    reliably: bool,
+    w: Wrapper,
+    len: usize,
+) -> Result<Asked, Refusal>
     ensures { result ≡ wrapper_asks table sender reliably w len }
 {
-    let Found::At(at) = table::find(table, sender, w.channel) else {
-        return Asked::Refused(6);
-    };
+    let at = table::find(table, sender, w.channel).ok_or(Refusal::NoRecord)?;
     if MOST_CONTENTS < len {
-        return Asked::Refused(7);
+        return Err(Refusal::ContentsOver);
     }
-    Asked::Wrapper {
+    Ok(Asked::Wrapper {
         at,
         arrived: arrived_of(reliably, w, len as u16),
-    }
+    })
 }
 
 // Refusal 5 of a Join.
-fn join_asks(ours: Cid, j: Join) -> Asked
+#[tactic(auto, unfolding(crate::specs::Asking::join_asks, table::specs::Table::same))]
+fn join_asks(ours: Cid, j: Join) -> Result<Asked, Refusal>
     ensures { result ≡ join_asks ours j }
 {
-    let named = j.cid;
-    if !table::is_same(named, ours) {
-        return Asked::Refused(5);
+    if j.cid != ours {
+        return Err(Refusal::NotForUs);
     }
-    Asked::Join(j)
+    Ok(Asked::Join(j))
 }
 
 // Refusals 4 to 7. An ACK is not a base message.
-pub fn asks(table: [Record; 8], sender: Cid, ours: Cid, vector: u8, body: &[u8]) -> Asked
+pub fn asks(
+    table: [Record; 8],
+    sender: Cid,
+    ours: Cid,
+    vector: u8,
+    body: &[u8],
+) -> Result<Asked, Refusal>
     ensures { result ≡ asked_of table sender ours vector body.now }
 {
     let MessageRead::Read(m) = message::read_message(vector, body) else {
-        return Asked::Refused(4);
+        return Err(Refusal::NoForm);
     };
     match m {
         Message::ReliableWrapper(w) => wrapper_asks(table, sender, true, w, body.len() - FIELDS),
         Message::UnreliableWrapper(w) => wrapper_asks(table, sender, false, w, body.len() - FIELDS),
         Message::Join(j) => join_asks(ours, j),
-        Message::Ack(_) => Asked::Refused(4),
-        _ => Asked::Refused(5),
+        Message::Ack(_) => Err(Refusal::NoForm),
+        _ => Err(Refusal::NotForUs),
     }
 }

@@ -14,6 +14,9 @@ use record::Terms;
 use wrapper::Reply;
 use writing::Wrote;
 
+// The octets of a reply room, and of the cell that a record sends from as time passes (01, "Room").
+pub const ROOM: usize = 64;
+
 // Writes a message that has a form and fits at the front of a room, and answers how many octets it takes.
 fn put_message(room: &mut [u8], m: Message) -> usize
     requires { (has_form m ≡ true) × (length (sent_of m) ≤ length room.old) }
@@ -26,29 +29,24 @@ fn put_message(room: &mut [u8], m: Message) -> usize
 }
 
 // A Leaving.
-pub fn put_leaving(room: &mut [u8], terms: Terms, reliable: Reliable, reason: u8) -> usize
-    requires { 64 ≤ length room.old }
+pub fn put_leaving(room: &mut [u8; ROOM], terms: Terms, reliable: Reliable, reason: u8) -> usize
     ensures { Put (sent_of (departure terms reliable reason)) result room.old room.new }
 {
     put_message(room, joining::departure_of(terms, reliable, reason))
 }
 
 // A new member's Join Accept, followed by an ACK of the Join's reliable number.
-fn put_welcome(room: &mut [u8], owner: Cid, j: Join, reciprocal: u16) -> usize
-    requires { 64 ≤ length room.old }
+fn put_welcome(room: &mut [u8; ROOM], owner: Cid, j: Join, reciprocal: u16) -> usize
     ensures { Put (welcome_of owner j reciprocal) result room.old room.new }
 {
-    let reliable = j.reliable;
-    let accept = joining::acceptance_of(owner, j, reliable, reciprocal);
+    let accept = joining::acceptance_of(owner, j, j.reliable, reciprocal);
     let accepted = put_message(room, accept);
-    let end = room.len();
-    let acked = put_message(&mut room[accepted..end], Message::Ack(reliable));
+    let acked = put_message(&mut room[accepted..], Message::Ack(j.reliable));
     accepted + acked
 }
 
 // What a wrapper's step replies.
-pub fn put_reply(room: &mut [u8], terms: Terms, reply: Reply) -> usize
-    requires { 64 ≤ length room.old }
+pub fn put_reply(room: &mut [u8; ROOM], terms: Terms, reply: Reply) -> usize
     ensures { Put (reply_of terms reply) result room.old room.new }
 {
     match reply {
@@ -59,8 +57,7 @@ pub fn put_reply(room: &mut [u8], terms: Terms, reply: Reply) -> usize
 }
 
 // What a channel sends as time passes.
-pub fn put_event(room: &mut [u8], terms: Terms, event: Event) -> usize
-    requires { 64 ≤ length room.old }
+pub fn put_event(room: &mut [u8; ROOM], terms: Terms, event: Event) -> usize
     ensures { Put (event_of terms event) result room.old room.new }
 {
     match event {
@@ -77,13 +74,12 @@ pub fn put_event(room: &mut [u8], terms: Terms, event: Event) -> usize
 
 // The reply to a Join.
 pub fn put_join_reply(
-    room: &mut [u8],
+    room: &mut [u8; ROOM],
     owner: Cid,
     j: Join,
     reciprocal: u16,
     decision: Decision,
 ) -> usize
-    requires { 64 ≤ length room.old }
     ensures { Put (join_reply_of owner j reciprocal decision) result room.old room.new }
 {
     match decision {

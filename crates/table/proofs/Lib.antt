@@ -1,4 +1,3 @@
--- What the proofs of `table` share, and the laws of a table.
-pub mod Searching
+-- The laws of a table.
 pub mod Finding
 pub mod Tables

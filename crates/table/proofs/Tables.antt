@@ -17,10 +17,12 @@ use Rattle.record.proofs.Choices.{both, and}
 use Rattle.record.proofs.Stored.{Stored, stored}
 use Rattle.record.proofs.Formed.{free_formed}
 use Rattle.table.specs.Table.{same, named, found, differs, table_formed, free_table, blank, record_at}
-use Rattle.table.specs.declared.Found.{Found}
-use Rattle.table.specs.declared.Found.TheVariants.{At, Nowhere}
-use Rattle.table.proofs.Searching.{Owns}
+use Rattle.std.specs.Prelude.{Option, Some, None}
 use Rattle.table.proofs.Finding.{found_at_lem, found_nowhere}
+
+-- the used record r has the owner o and the channel c
+abbrev pub Owns : Record → Cid → ℕ → Type 0
+Owns r o c = (r.used ≡ true) × (r.terms.owner ≡ o) × (r.terms.channel ≡ c)
 
 -- past the table stands a free record, so that neither law asks a bound of a place
 pub record TableFormed (ts : List Record) : Type 0 where
@@ -185,9 +187,9 @@ module _ (ts : List Record) (i : ℕ) (r : Record) where
 
 -- ---- the search of a well-formed table
 
-pub found_formed : {ts : List Record} → TableFormed ts → (o : Cid) (c i : ℕ) → named o c (record_at ts i) ≡ true → found 0 o c ts ≡ At i
+pub found_formed : {ts : List Record} → TableFormed ts → (o : Cid) (c i : ℕ) → named o c (record_at ts i) ≡ true → found 0 o c ts ≡ Some i
 found_formed {ts} f o c i n = by (found 0 o c ts) refl
   where
-    by : (g : Found) → found 0 o c ts ≡ g → g ≡ At i
-    by (At j) e = ap At (f.differ o c j i (found_at_lem o c ts j e).1 n)
-    by Nowhere e = absurd (false≢true (sym (found_nowhere o c ts e i) ∙ n))
+    by : (g : Option ℕ) → found 0 o c ts ≡ g → g ≡ Some i
+    by (Some j) e = ap Some (f.differ o c j i (found_at_lem o c ts j e).1 n)
+    by None e = absurd (false≢true (sym (found_nowhere o c ts e i) ∙ n))

@@ -1,6 +1,6 @@
 -- The table of eight records (01, "Room", "Refusal numbers" and the end of "One channel"): which record has an owner and channel, which one is
 -- free, and when the whole table is well formed.
-use Rattle.std.specs.Prelude.{ℕ, Bool, true, false, not, ◌&&◌, List, [], ◌∷◌, get_or, replicate, eqb}
+use Rattle.std.specs.Prelude.{ℕ, Bool, true, false, not, ◌&&◌, List, [], ◌∷◌, Option, Some, None, get_or, replicate, eqb}
 use Rattle.message.specs.declared.Cid.{Cid}
 use Rattle.record.specs.Lowest.{lowest}
 use Rattle.record.specs.Places.{no_place}
@@ -9,8 +9,6 @@ use Rattle.record.specs.declared.Gap.TheVariants as gap
 use Rattle.record.specs.declared.Place.{Place}
 use Rattle.record.specs.declared.Terms.{Terms}
 use Rattle.record.specs.declared.Record.{Record}
-use Rattle.table.specs.declared.Found.{Found}
-use Rattle.table.specs.declared.Found.TheVariants as search
 
 -- two CIDs are the same
 unfoldable pub same : Cid → Cid → Bool
@@ -21,15 +19,15 @@ unfoldable pub named : Cid → ℕ → Record → Bool
 named owner channel r = r.used && same r.terms.owner owner && eqb r.terms.channel channel
 
 -- the record of this owner and channel, of records that are counted from i on
-unfoldable pub found : ℕ → Cid → ℕ → List Record → Found
-found i owner channel rs = lowest (named owner channel) search.At search.Nowhere i rs
+unfoldable pub found : ℕ → Cid → ℕ → List Record → Option ℕ
+found i owner channel rs = lowest (named owner channel) Some None i rs
 
 abbrev pub is_free : Record → Bool
 is_free r = not r.used
 
 -- the lowest free one of records that are counted from i on
-unfoldable pub lowest_free : ℕ → List Record → Found
-lowest_free i rs = lowest is_free search.At search.Nowhere i rs
+unfoldable pub lowest_free : ℕ → List Record → Option ℕ
+lowest_free i rs = lowest is_free Some None i rs
 
 -- if r is used, none of these records has its owner and channel
 unfoldable pub differs : Record → List Record → Bool

@@ -1,23 +1,18 @@
--- The walk over the records that are left, a record at a time.
-use Rattle.std.proofs.Common.{refl, arith}
-use Rattle.std.proofs.lemmas.Bool.{not-false}
-use Rattle.table.proofs.Searching.{free_differs, differs_here, differs_on, differs_none}
+-- `all` over the others is `differs`, element by element.
+use Rattle.std.proofs.Common.{refl, rules, tests, ◌∙◌}
+use Rattle.std.specs.Prelude.{◌&&◌, not}
+use Rattle.std.specs.List.{list_all}
+use Rattle.std.proofs.lemmas.Iterator.{YieldsList-from_slice}
+use Rattle.std.proofs.lemmas.Iterator.Search.{all_from_yields_List}
+use Rattle.std.proofs.lemmas.List.Recursion.{same_from_clauses}
+use Rattle.record.specs.declared.Record.{Record}
+use Rattle.table.specs.Table.{named, differs}
 use Rattle.table.proofs.is_apart.Goals as goal
 
-pub returns-then-not-r : goal.returns-then-not-r
-returns-then-not-r c = search free_differs
-
-pub returns-then-is_named : goal.returns-then-is_named
-returns-then-is_named c =
-    let l = c.loop-j in
-    differs_here _ _ _ _ l.j l.invariant.1 l.invariant.2 _ (omega arith) _ c.is_named.ensures c.if-is_named.true _ (search not-false, refl, refl)
-
-pub loop-j-preserved : goal.loop-j-preserved
-loop-j-preserved c =
-    let l = c.loop-j in
-    (omega arith, l.invariant.1, differs_on _ _ _ _ l.j l.invariant.1 l.invariant.2 _ (omega arith) _ c.is_named.ensures c.if-is_named.false)
-
 pub returns : goal.returns
+unfolding differs
 returns c =
-    let l = c.loop-j in
-    differs_none _ _ _ _ l.j l.invariant.1 l.invariant.2 (omega arith) _ (search not-false, refl, refl)
+    let r = c.args.r in
+    let f = λ (s : Record). not (r.used && named r.terms.owner r.terms.channel s) in
+    all_from_yields_List f _ _ c.all.result c.all.ensures.ran (YieldsList-from_slice c.args.others.now cc) (λ x b q k. search (rules, tests))
+    ∙ same_from_clauses (list_all f) (differs r) (λ s b. f s && b) refl (λ _ _. refl) (λ _ _. refl) c.args.others.now

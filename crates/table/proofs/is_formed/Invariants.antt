@@ -1,10 +1,10 @@
 -- The records that are left decide.
-use Rattle.std.proofs.Common.{◌≡◌, ◌≤◌, ◌-◌, length, drop}
+use Rattle.std.proofs.Common.{◌≡◌, length}
 use Rattle.table.specs.Table.{table_formed}
 use Rattle.table.proofs.is_formed.Given as goal
 
-abbrev pub invariant-loop-i : goal.invariant-loop-i
-invariant-loop-i l = (l.i ≤ 8) × (length l.table ≡ 8) × (table_formed l.table ≡ table_formed (drop l.i l.table))
+abbrev pub invariant-loop-r : goal.invariant-loop-r
+invariant-loop-r l = table_formed l.fn.table ≡ table_formed l.left
 
-abbrev pub decreases-loop-i : goal.decreases-loop-i
-decreases-loop-i l = 8 - l.i
+abbrev pub decreases-loop-r : goal.decreases-loop-r
+decreases-loop-r l = length l.left
