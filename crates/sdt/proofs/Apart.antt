@@ -5,13 +5,15 @@ use mathlib.Core.Path.{◌≡◌, refl}
 use mathlib.Core.Bool.{Bool, true, false, cond}
 use mathlib.Core.List.{List}
 use lib.Dec.{eqb}
+use Rattle.std.specs.Prelude.{Option, Some, None, Result, Ok, Err}
+use Rattle.refusal.specs.Numbers.{number_of}
+use Rattle.refusal.specs.declared.Refusal.{Refusal}
+use Rattle.refusal.specs.declared.Refusal.TheVariants as refusal
+use Rattle.block.specs.declared.Found.{Found}
 use Rattle.block.specs.declared.Cursor.{Cursor}
-use Rattle.block.specs.declared.BlockRead.{BlockRead}
-use Rattle.block.specs.declared.BlockRead.TheVariants as read
 use Rattle.block.specs.declared.Opened.{Opened}
-use Rattle.block.specs.declared.Opened.TheVariants as opened
-use Rattle.block.specs.declared.Next.{Next}
-use Rattle.block.specs.declared.Next.TheVariants as next
+use Rattle.block.specs.declared.Following.{Following}
+use Rattle.block.specs.declared.Astray.{Astray}
 use Rattle.message.specs.Reading.{readable, message_of, read_message}
 use Rattle.message.specs.declared.Message.{Message}
 use Rattle.message.specs.declared.MessageRead.{MessageRead}
@@ -19,10 +21,8 @@ use Rattle.message.specs.declared.MessageRead.TheVariants.{Read, Unreadable}
 use Rattle.writing.specs.declared.Wrote.{Wrote}
 use Rattle.writing.specs.declared.Wrote.TheVariants as wrote
 use Rattle.plain.specs.Messages.{typed_of}
-use Rattle.plain.specs.declared.Typed.{Typed}
-use Rattle.plain.specs.declared.Typed.TheVariants as typed
 use Rattle.plain.proofs.Back.{Proper, typed_plain, read_proper}
-use Rattle.sdt.specs.Blocks.{ok, fewer, block_answer, open_answer, next_answer}
+use Rattle.sdt.specs.Blocks.{ok, fewer, place_of, block_answer, open_answer, next_answer}
 use Rattle.sdt.specs.Messages.{message_answer, write_answer}
 use Rattle.sdt.specs.declared.BlockAnswer.{BlockAnswer}
 use Rattle.sdt.specs.declared.OpenAnswer.{OpenAnswer}
@@ -30,53 +30,96 @@ use Rattle.sdt.specs.declared.NextAnswer.{NextAnswer}
 use Rattle.sdt.specs.declared.MessageAnswer.{MessageAnswer}
 use Rattle.sdt.specs.declared.WriteAnswer.{WriteAnswer}
 
+-- ---- the refusals: the number, with the place, says which it is
+
+refusal_of : ℕ → ℕ → Refusal
+refusal_of number place =
+    cond (eqb number 1) refusal.WrongSize
+    (cond (eqb number 2) refusal.WrongTable
+    (cond (eqb number 3) refusal.TooMuchTime
+    (cond (eqb number 4) refusal.NoForm
+    (cond (eqb number 5) refusal.NotForUs
+    (cond (eqb number 6) refusal.NoRecord
+    (cond (eqb number 7) refusal.ContentsOver
+    (cond (eqb number 8) refusal.Old
+    (cond (eqb number 9) refusal.Inconsistent
+    (cond (eqb number 10) refusal.WrongReason (refusal.Malformed place))))))))))
+
+refusal_back : (r : Refusal) → refusal_of (number_of r) (place_of r) ≡ r
+unfolding refusal_of
+refusal_back refusal.WrongSize = refl
+refusal_back refusal.WrongTable = refl
+refusal_back refusal.TooMuchTime = refl
+refusal_back refusal.NoForm = refl
+refusal_back refusal.NotForUs = refl
+refusal_back refusal.NoRecord = refl
+refusal_back refusal.ContentsOver = refl
+refusal_back refusal.Old = refl
+refusal_back refusal.Inconsistent = refl
+refusal_back refusal.WrongReason = refl
+refusal_back (refusal.Malformed at) = refl
+
+-- no refusal has the outcome of an answer that is none, or the one that says that there are fewer messages
+proper_number : (A : Type 0) (r : Refusal) (x y z : A) → cond (eqb (number_of r) ok) x (cond (eqb (number_of r) fewer) y z) ≡ z
+proper_number A refusal.WrongSize x y z = refl
+proper_number A refusal.WrongTable x y z = refl
+proper_number A refusal.TooMuchTime x y z = refl
+proper_number A refusal.NoForm x y z = refl
+proper_number A refusal.NotForUs x y z = refl
+proper_number A refusal.NoRecord x y z = refl
+proper_number A refusal.ContentsOver x y z = refl
+proper_number A refusal.Old x y z = refl
+proper_number A refusal.Inconsistent x y z = refl
+proper_number A refusal.WrongReason x y z = refl
+proper_number A (refusal.Malformed at) x y z = refl
+
+-- what an answer of this outcome is the answer of: a value, nothing, or a refusal
+abbrev result_of : {A : Type 0} → ℕ → ℕ → A → A → Result A Refusal
+result_of outcome bad value none = cond (eqb outcome ok) (Ok value) (cond (eqb outcome fewer) (Ok none) (Err (refusal_of outcome bad)))
+
+refused_back : {A : Type 0} (r : Refusal) (value none : A) → result_of (number_of r) (place_of r) value none ≡ Err r
+refused_back {A} r value none = rw (proper_number (Result A Refusal) r (Ok value) (Ok none) (Err (refusal_of (number_of r) (place_of r))), refusal_back r)
+
 -- ---- reading one message of a block
 
-block_of : BlockAnswer → BlockRead
-block_of r =
-    cond (eqb r.outcome ok) (read.Message r.found)
-    (cond (eqb r.outcome fewer) read.Fewer
-    (cond (eqb r.outcome 1) read.TooLong (read.Malformed r.bad)))
+block_of : BlockAnswer → Result (Option Found) Refusal
+block_of r = result_of r.outcome r.bad (Some r.found) None
 
-block_back : (a : BlockRead) → block_of (block_answer a) ≡ a
+block_back : (a : Result (Option Found) Refusal) → block_of (block_answer a) ≡ a
 unfolding block_of block_answer
-block_back (read.Message found) = refl
-block_back read.Fewer = refl
-block_back read.TooLong = refl
-block_back (read.Malformed bad) = refl
+block_back (Ok (Some found)) = refl
+block_back (Ok None) = refl
+block_back (Err r) = refused_back r (Some _) None
 
-pub block_apart : (a b : BlockRead) → block_answer a ≡ block_answer b → a ≡ b
+pub block_apart : (a b : Result (Option Found) Refusal) → block_answer a ≡ block_answer b → a ≡ b
 block_apart a b e = cc (block_back a, block_back b)
 
 -- ---- opening a block, and reading on
 
-opened_of : OpenAnswer → Opened
-opened_of r =
-    cond (eqb r.outcome ok) (opened.Messages r.count r.cursor)
-    (cond (eqb r.outcome 1) opened.TooLong (opened.Malformed r.bad))
+opened_of : OpenAnswer → Result Opened Refusal
+opened_of r = let o : Opened = record { count = r.count; cursor = r.cursor } in result_of r.outcome r.bad o o
 
-open_back : (a : Opened) → opened_of (open_answer a) ≡ a
+open_back : (a : Result Opened Refusal) → opened_of (open_answer a) ≡ a
 unfolding opened_of open_answer
-open_back (opened.Messages count cursor) = refl
-open_back opened.TooLong = refl
-open_back (opened.Malformed bad) = refl
+open_back (Ok o) = refl
+open_back (Err r) = refused_back r _ _
 
-pub open_apart : (a b : Opened) → open_answer a ≡ open_answer b → a ≡ b
+pub open_apart : (a b : Result Opened Refusal) → open_answer a ≡ open_answer b → a ≡ b
 open_apart a b e = cc (open_back a, open_back b)
 
-next_of : NextAnswer → Next
+next_of : NextAnswer → Result (Option Following) Astray
 next_of r =
-    cond (eqb r.outcome ok) (next.Message r.found r.cursor)
-    (cond (eqb r.outcome fewer) next.End next.Astray)
+    cond (eqb r.outcome ok) (Ok (Some (record { found = r.found; cursor = r.cursor })))
+    (cond (eqb r.outcome fewer) (Ok None) (Err (record {})))
 
-next_back : (c : Cursor) (a : Next) → next_of (next_answer c a) ≡ a
+next_back : (c : Cursor) (a : Result (Option Following) Astray) → next_of (next_answer c a) ≡ a
 unfolding next_of next_answer
-next_back c (next.Message found cursor) = refl
-next_back c next.End = refl
-next_back c next.Astray = refl
+next_back c (Ok (Some f)) = refl
+next_back c (Ok None) = refl
+next_back c (Err e) = refl
 
 -- even with two cursors: where the given one is answered, the outcome says that it is
-pub next_apart : (c d : Cursor) (a b : Next) → next_answer c a ≡ next_answer d b → a ≡ b
+pub next_apart : (c d : Cursor) (a b : Result (Option Following) Astray) → next_answer c a ≡ next_answer d b → a ≡ b
 next_apart c d a b e = cc (next_back c a, next_back d b)
 
 -- ---- reading a message
@@ -84,9 +127,9 @@ next_apart c d a b e = cc (next_back c a, next_back d b)
 abbrev pub ProperRead : MessageRead → Type 0
 ProperRead a = (m : Message) → a ≡ Read m → Proper m
 
-read_typed : Typed → MessageRead
-read_typed (typed.Is m) = Read m
-read_typed typed.Unknown = Unreadable
+read_typed : Option Message → MessageRead
+read_typed (Some m) = Read m
+read_typed None = Unreadable
 
 read_of : MessageAnswer → MessageRead
 read_of r = cond (eqb r.outcome ok) (read_typed (typed_of r.message)) Unreadable

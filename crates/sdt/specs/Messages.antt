@@ -1,7 +1,8 @@
 -- What C is answered when it reads or writes a message: 01's number and values for each answer of `message` and `writing`, as a struct of
 -- numbers.
-use Rattle.std.specs.Prelude.{ℕ, List}
+use Rattle.std.specs.Prelude.{ℕ, List, Option, Some, None}
 use Rattle.message.specs.Reading.{number_of as readNumber}
+use Rattle.message.specs.declared.Message.{Message}
 use Rattle.message.specs.declared.MessageRead.{MessageRead}
 use Rattle.message.specs.declared.MessageRead.TheVariants as read
 use Rattle.writing.specs.Writing.{wrote, room_after, number_of as wroteNumber}
@@ -9,8 +10,6 @@ use Rattle.writing.specs.declared.Wrote.{Wrote}
 use Rattle.writing.specs.declared.Wrote.TheVariants as wrote
 use Rattle.plain.specs.Messages.{no_message, plain_of, typed_of}
 use Rattle.plain.specs.declared.Plain.{Plain}
-use Rattle.plain.specs.declared.Typed.{Typed}
-use Rattle.plain.specs.declared.Typed.TheVariants as typed
 use Rattle.sdt.specs.declared.MessageAnswer.{MessageAnswer}
 use Rattle.sdt.specs.declared.WriteAnswer.{WriteAnswer}
 
@@ -30,13 +29,13 @@ unfoldable pub write_answer : Wrote → WriteAnswer
 write_answer w = record { outcome = wroteNumber w; length = length_of w }
 
 -- p is the message as numbers, c the contents and r the room. Numbers that are none of the nine messages have no written form: 4
-abbrev pub answer_typed : Typed → List ℕ → List ℕ → WriteAnswer
-answer_typed (typed.Is m) c r = write_answer (wrote m c r)
-answer_typed typed.Unknown c r = write_answer wrote.NoForm
+abbrev pub answer_typed : Option Message → List ℕ → List ℕ → WriteAnswer
+answer_typed (Some m) c r = write_answer (wrote m c r)
+answer_typed None c r = write_answer wrote.NoForm
 
-abbrev pub room_typed : Typed → List ℕ → List ℕ → List ℕ
-room_typed (typed.Is m) c r = room_after m c r
-room_typed typed.Unknown c r = r
+abbrev pub room_typed : Option Message → List ℕ → List ℕ → List ℕ
+room_typed (Some m) c r = room_after m c r
+room_typed None c r = r
 
 unfoldable pub written_answer : Plain → List ℕ → List ℕ → WriteAnswer
 written_answer p c r = answer_typed (typed_of p) c r
