@@ -1,18 +1,19 @@
 // The nine messages that the controller reads: their fields, the one table of their data lengths, and reading them.
 #![tactic(auto)]
 
-ghost use Rattle.std.specs.Prelude.{◌≡◌, true, ◌+◌, ◌≤◌, length};
-ghost use Rattle.message.specs.Lengths.{join_refuse, length_in, length_of};
+ghost use Rattle.std.specs.Prelude.{◌≡◌, true, ◌+◌, ◌≤◌, length, IfSome};
+ghost use Rattle.message.specs.Lengths.{join_refuse, length_of};
 ghost use Rattle.message.specs.Layouts.{cid_at, membership_of, wrapper_of, parameters_at, address_of, join_of};
 ghost use Rattle.message.specs.Reading.{readable_join, readable, fixed_of, message_of};
 ghost use Rattle.message.specs.Allowed.{ReadMessageAllows};
 
 use counter::{Reliable, Total};
 use octets::Field;
+use refusal::Refusal;
 
 // A component's identifier: its 16 octets as two numbers, so that it compares in two tests.
 #[repr(C)]
-#[derive(Clone, Copy)]
+#[derive(Clone, Copy, Debug, PartialEq, Eq)]
 pub struct Cid {
     pub high: u64,
     pub low: u64,
@@ -101,13 +102,6 @@ pub enum Message {
         last: Reliable,
     },
     GetSessions(Cid),
-}
-
-// What reading a message answers. `Unreadable` is refusal 4.
-#[derive(Clone, Copy)]
-pub enum MessageRead {
-    Read(Message),
-    Unreadable,
 }
 
 // The vectors of the nine messages.
@@ -199,34 +193,15 @@ const ROWS: [Row; 10] = [
     },
 ];
 
-// The length in this row, and 0 if the row is not that of this vector and address.
-fn length_in(row: Row, vector: u8, address: u8) -> usize
-    ensures { result ≡ length_in row vector address }
+// The data length of a vector's message with an address of this type: 0 is null (or no address), 1 is IPv4. None if no row has it.
+#[tactic(auto, using(crate::proofs::Lengths::at_most_46), unfolding(crate::specs::Lengths::length_of, crate::specs::Lengths::look))]
+pub fn length_of(vector: u8, address: u8) -> Option<usize>
+    ensures length { result ≡ length_of vector address }
+    ensures at_most_46 { IfSome result (λ len. len ≤ 46) }
 {
-    if vector != row.vector {
-        return 0;
-    }
-    if address != row.address {
-        return 0;
-    }
-    row.len
-}
-
-// The data length of a vector's message with an address of this type: 0 is null (or no address), 1 is IPv4. 0 if no row has it. The rows are
-// named once before the loop, since the compiler would else lay them out anew in each turn; so it makes a switch of the whole search.
-pub fn length_of(vector: u8, address: u8) -> usize
-    ensures { (result ≡ length_of vector address) × (result ≤ 46) }
-{
-    let rows = ROWS;
-    let mut at = 0;
-    while at < 10 {
-        let len = length_in(rows[at], vector, address);
-        if len != 0 {
-            return len;
-        }
-        at += 1;
-    }
-    0
+    ROWS.iter()
+        .find(|row| row.vector == vector && row.address == address)
+        .map(|row| row.len)
 }
 
 // Whether data is that of a Join: one with a null or an IPv4 address has its exact length, and any other its first 31 octets.
@@ -238,10 +213,7 @@ fn readable_join(body: &[u8]) -> bool
         return false;
     }
     let address = body[30];
-    if ADDRESS_IPV4 < address {
-        return true;
-    }
-    body.len() == length_of(JOIN, address)
+    ADDRESS_IPV4 < address || length_of(JOIN, address) == Some(body.len())
 }
 
 // Whether a message can be read: its vector is one of the nine, and its data has a length and an address form of the table.
@@ -249,11 +221,11 @@ fn readable_join(body: &[u8]) -> bool
 fn is_readable(vector: u8, body: &[u8]) -> bool
     ensures { result ≡ readable vector body.now }
 {
-    let exact = length_of(vector, ADDRESS_NULL);
+    let of_row = length_of(vector, ADDRESS_NULL);
     match vector {
         JOIN => readable_join(body),
-        RELIABLE_WRAPPER | UNRELIABLE_WRAPPER => exact <= body.len(),
-        _ => exact != 0 && body.len() == exact,
+        RELIABLE_WRAPPER | UNRELIABLE_WRAPPER => of_row.is_some_and(|least| least <= body.len()),
+        _ => of_row == Some(body.len()),
     }
 }
 
@@ -397,11 +369,11 @@ fn message_of(vector: u8, body: &[u8]) -> Message
 // The message of this vector and data. A wrapper's contents are its data past the first 20 octets.
 #[inline(always)]
 #[tactic(auto, unfolding(crate::specs::Reading::read_message))]
-pub fn read_message(vector: u8, body: &[u8]) -> MessageRead
+pub fn read_message(vector: u8, body: &[u8]) -> Result<Message, Refusal>
     ensures { ReadMessageAllows vector body.now result }
 {
     if !is_readable(vector, body) {
-        return MessageRead::Unreadable;
+        return Err(Refusal::NoForm);
     }
-    MessageRead::Read(message_of(vector, body))
+    Ok(message_of(vector, body))
 }

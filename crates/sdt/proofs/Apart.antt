@@ -16,8 +16,6 @@ use Rattle.block.specs.declared.Following.{Following}
 use Rattle.block.specs.declared.Astray.{Astray}
 use Rattle.message.specs.Reading.{readable, message_of, read_message}
 use Rattle.message.specs.declared.Message.{Message}
-use Rattle.message.specs.declared.MessageRead.{MessageRead}
-use Rattle.message.specs.declared.MessageRead.TheVariants.{Read, Unreadable}
 use Rattle.writing.specs.declared.Wrote.{Wrote}
 use Rattle.writing.specs.declared.Wrote.TheVariants as wrote
 use Rattle.plain.specs.Messages.{typed_of}
@@ -124,31 +122,29 @@ next_apart c d a b e = cc (next_back c a, next_back d b)
 
 -- ---- reading a message
 
-abbrev pub ProperRead : MessageRead → Type 0
-ProperRead a = (m : Message) → a ≡ Read m → Proper m
+-- a result that can be had back from its answer: its message has a proper address, or its refusal no place, which the answer would not hold
+abbrev pub ProperRead : Result Message Refusal → Type 0
+ProperRead (Ok m) = Proper m
+ProperRead (Err r) = place_of r ≡ 0
 
-read_typed : Option Message → MessageRead
-read_typed (Some m) = Read m
-read_typed None = Unreadable
+read_of : MessageAnswer → Result Message Refusal
+read_of r = cond (eqb r.outcome ok) (ok_or (typed_of r.message) refusal.NoForm) (Err (refusal_of r.outcome 0))
 
-read_of : MessageAnswer → MessageRead
-read_of r = cond (eqb r.outcome ok) (read_typed (typed_of r.message)) Unreadable
+message_back : (a : Result Message Refusal) → ProperRead a → read_of (message_answer a) ≡ a
+unfolding read_of message_answer
+message_back (Ok m) h = rw (typed_plain m h)
+message_back (Err r) h = rw h at (refused_back r m m)
 
-message_back : (a : MessageRead) → ProperRead a → read_of (message_answer a) ≡ a
-unfolding read_of read_typed message_answer
-message_back (Read m) h = rw (typed_plain m (h m refl))
-message_back Unreadable h = refl
-
-pub message_apart : (a b : MessageRead) → ProperRead a → ProperRead b → message_answer a ≡ message_answer b → a ≡ b
+pub message_apart : (a b : Result Message Refusal) → ProperRead a → ProperRead b → message_answer a ≡ message_answer b → a ≡ b
 message_apart a b h k e = cc (message_back a h, message_back b k)
 
 proper_read : (v : ℕ) (d : List ℕ) → ProperRead (read_message v d)
 unfolding read_message
-proper_read v d m e = by (readable v d) e
+proper_read v d = by (readable v d)
   where
-    by : (t : Bool) → cond t (Read (message_of v d)) Unreadable ≡ Read m → Proper m
-    by true q = let s : message_of v d ≡ m = cc in rw s at (read_proper v d)
-    by false q = let s : message_of v d ≡ m = cc in rw s at (read_proper v d)
+    by : (t : Bool) → ProperRead (cond t (Ok (message_of v d)) (Err refusal.NoForm))
+    by true = read_proper v d
+    by false = refl
 
 -- so whatever is read
 pub read_apart : (v w : ℕ) (d e : List ℕ) → message_answer (read_message v d) ≡ message_answer (read_message w e) → read_message v d ≡ read_message w e

@@ -18,8 +18,6 @@ use Rattle.block.specs.declared.Following.{Following}
 use Rattle.block.specs.declared.Astray.{Astray}
 use Rattle.message.specs.Reading.{read_message}
 use Rattle.message.specs.declared.Message.{Message}
-use Rattle.message.specs.declared.MessageRead.{MessageRead}
-use Rattle.message.specs.declared.MessageRead.TheVariants as parsed
 use Rattle.writing.specs.Writing as writing
 use Rattle.writing.specs.declared.Wrote.{Wrote}
 use Rattle.writing.specs.declared.Wrote.TheVariants as wrote
@@ -85,11 +83,11 @@ next_message_refused s c a e = rw e (next_alone c (next_message s c))
 
 -- ---- messages
 
-message_alone : (a : MessageRead) → (message_answer a).outcome ≢ ok
+message_alone : (a : Result Message Refusal) → (message_answer a).outcome ≢ ok
     → message_answer a ≡ record { outcome = (message_answer a).outcome; message = no_message }
 unfolding message_answer
-message_alone (parsed.Read m) h = absurd (h refl)
-message_alone parsed.Unreadable h = refl
+message_alone (Ok m) h = absurd (h refl)
+message_alone (Err r) h = refl
 
 pub read_message_refused : (v : ℕ) (d : List ℕ) (a : MessageAnswer) → SdtReadMessageAllows v d a → a.outcome ≢ ok
     → a ≡ record { outcome = a.outcome; message = no_message }

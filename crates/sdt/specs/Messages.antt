@@ -1,22 +1,22 @@
 -- What C is answered when it reads or writes a message: 01's number and values for each answer of `message` and `writing`, as a struct of
 -- numbers.
-use Rattle.std.specs.Prelude.{ℕ, List, Option, Some, None}
-use Rattle.message.specs.Reading.{number_of as readNumber}
+use Rattle.std.specs.Prelude.{ℕ, List, Option, Some, None, Result, Ok, Err}
+use Rattle.refusal.specs.Numbers.{number_of}
+use Rattle.refusal.specs.declared.Refusal.{Refusal}
 use Rattle.message.specs.declared.Message.{Message}
-use Rattle.message.specs.declared.MessageRead.{MessageRead}
-use Rattle.message.specs.declared.MessageRead.TheVariants as read
 use Rattle.writing.specs.Writing.{wrote, room_after, number_of as wroteNumber}
 use Rattle.writing.specs.declared.Wrote.{Wrote}
 use Rattle.writing.specs.declared.Wrote.TheVariants as wrote
 use Rattle.plain.specs.Messages.{no_message, plain_of, typed_of}
 use Rattle.plain.specs.declared.Plain.{Plain}
+use Rattle.sdt.specs.Blocks.{ok}
 use Rattle.sdt.specs.declared.MessageAnswer.{MessageAnswer}
 use Rattle.sdt.specs.declared.WriteAnswer.{WriteAnswer}
 
--- reading: 0 and the message, or 4 and none
-unfoldable pub message_answer : MessageRead → MessageAnswer
-message_answer (read.Read m) = record { outcome = readNumber (read.Read m); message = plain_of m }
-message_answer read.Unreadable = record { outcome = readNumber read.Unreadable; message = no_message }
+-- reading: 0 and the message, or a refusal's number and none
+unfoldable pub message_answer : Result Message Refusal → MessageAnswer
+message_answer (Ok m) = record { outcome = ok; message = plain_of m }
+message_answer (Err r) = record { outcome = number_of r; message = no_message }
 
 -- writing: 0 and the number of octets written, or a refusal's number
 abbrev pub length_of : Wrote → ℕ

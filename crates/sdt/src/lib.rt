@@ -9,7 +9,7 @@ ghost use Rattle.sdt.specs.Messages.{message_answer, write_answer};
 ghost use Rattle.sdt.specs.Allowed.{SdtReadBlockAllows, SdtOpenBlockAllows, SdtNextMessageAllows, SdtReadMessageAllows, SdtWriteMessageAllows};
 
 use block::{Astray, Cursor, Found, Opened};
-use message::MessageRead;
+use message::Message;
 use plain::Plain;
 use refusal::Refusal;
 use writing::Wrote;
@@ -132,19 +132,19 @@ impl From<Result<Opened, Refusal>> for OpenAnswer {
     }
 }
 
-impl From<MessageRead> for MessageAnswer {
+impl From<Result<Message, Refusal>> for MessageAnswer {
     ghost from_gives = { λ read answer. answer ≡ message_answer read };
 
     #[inline(always)]
     #[tactic(auto, unfolding(crate::specs::Messages::message_answer))]
-    fn from(read: MessageRead) -> MessageAnswer {
+    fn from(read: Result<Message, Refusal>) -> MessageAnswer {
         match read {
-            MessageRead::Read(m) => MessageAnswer {
+            Ok(m) => MessageAnswer {
                 outcome: OK,
                 message: Plain::from(m),
             },
-            MessageRead::Unreadable => MessageAnswer {
-                outcome: 4,
+            Err(r) => MessageAnswer {
+                outcome: r.number() as u32,
                 message: plain::EMPTY,
             },
         }
