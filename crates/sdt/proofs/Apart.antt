@@ -1,11 +1,15 @@
 -- C can tell every outcome apart: two results that are answered alike are the same result, since a result can be had back from its answer.
 -- Assumes nothing.
-use Prim.Native.Nat.{ℕ}
+use Prim.{Unit}
+use Prim.Native.Nat.{ℕ, ◌<◌}
 use mathlib.Core.Path.{◌≡◌, refl}
-use mathlib.Core.Bool.{Bool, true, false, cond}
+use mathlib.Core.Bool.{Bool, true, false, cond, not}
 use mathlib.Core.List.{List}
-use lib.Dec.{eqb}
-use Rattle.std.specs.Prelude.{Option, Some, None, Result, Ok, Err}
+use lib.ListN.{length}
+use lib.Dec.{ltb, eqb, lit<}
+use native.Mathlib.Omega.{arith}
+use borrow.Author.Tests.{ne_eqb}
+use Rattle.std.specs.Prelude.{Option, Some, None, Result, Ok, Err, ok_or}
 use Rattle.refusal.specs.Numbers.{number_of}
 use Rattle.refusal.specs.declared.Refusal.{Refusal}
 use Rattle.refusal.specs.declared.Refusal.TheVariants as refusal
@@ -16,8 +20,8 @@ use Rattle.block.specs.declared.Following.{Following}
 use Rattle.block.specs.declared.Astray.{Astray}
 use Rattle.message.specs.Reading.{readable, message_of, read_message}
 use Rattle.message.specs.declared.Message.{Message}
-use Rattle.writing.specs.declared.Wrote.{Wrote}
-use Rattle.writing.specs.declared.Wrote.TheVariants as wrote
+use Rattle.message.specs.Lengths.{most_contents}
+use Rattle.writing.specs.Writing.{has_form, contents_of, pdu_of, wrote}
 use Rattle.plain.specs.Messages.{typed_of}
 use Rattle.plain.proofs.Back.{Proper, typed_plain, read_proper}
 use Rattle.sdt.specs.Blocks.{ok, fewer, place_of, block_answer, open_answer, next_answer}
@@ -57,37 +61,42 @@ refusal_back refusal.Inconsistent = refl
 refusal_back refusal.WrongReason = refl
 refusal_back (refusal.Malformed at) = refl
 
--- no refusal has the outcome of an answer that is none, or the one that says that there are fewer messages
-proper_number : (A : Type 0) (r : Refusal) (x y z : A) → cond (eqb (number_of r) ok) x (cond (eqb (number_of r) fewer) y z) ≡ z
-proper_number A refusal.WrongSize x y z = refl
-proper_number A refusal.WrongTable x y z = refl
-proper_number A refusal.TooMuchTime x y z = refl
-proper_number A refusal.NoForm x y z = refl
-proper_number A refusal.NotForUs x y z = refl
-proper_number A refusal.NoRecord x y z = refl
-proper_number A refusal.ContentsOver x y z = refl
-proper_number A refusal.Old x y z = refl
-proper_number A refusal.Inconsistent x y z = refl
-proper_number A refusal.WrongReason x y z = refl
-proper_number A (refusal.Malformed at) x y z = refl
+-- a refusal has one of 01's numbers, so neither the outcome of an answer that is none nor the one that says that there are fewer messages
+numbered : (r : Refusal) → (ok < number_of r) × (number_of r < fewer)
+numbered refusal.WrongSize = (lit< tt, lit< tt)
+numbered refusal.WrongTable = (lit< tt, lit< tt)
+numbered refusal.TooMuchTime = (lit< tt, lit< tt)
+numbered refusal.NoForm = (lit< tt, lit< tt)
+numbered refusal.NotForUs = (lit< tt, lit< tt)
+numbered refusal.NoRecord = (lit< tt, lit< tt)
+numbered refusal.ContentsOver = (lit< tt, lit< tt)
+numbered refusal.Old = (lit< tt, lit< tt)
+numbered refusal.Inconsistent = (lit< tt, lit< tt)
+numbered refusal.WrongReason = (lit< tt, lit< tt)
+numbered (refusal.Malformed at) = (lit< tt, lit< tt)
 
--- what an answer of this outcome is the answer of: a value, nothing, or a refusal
-abbrev result_of : {A : Type 0} → ℕ → ℕ → A → A → Result A Refusal
-result_of outcome bad value none = cond (eqb outcome ok) (Ok value) (cond (eqb outcome fewer) (Ok none) (Err (refusal_of outcome bad)))
+not_ok : (r : Refusal) → eqb (number_of r) ok ≡ false
+not_ok r = let n = numbered r in ne_eqb (number_of r) ok (λ e. omega (arith, e, n.0))
 
-refused_back : {A : Type 0} (r : Refusal) (value none : A) → result_of (number_of r) (place_of r) value none ≡ Err r
-refused_back {A} r value none = rw (proper_number (Result A Refusal) r (Ok value) (Ok none) (Err (refusal_of (number_of r) (place_of r))), refusal_back r)
+not_fewer : (r : Refusal) → eqb (number_of r) fewer ≡ false
+not_fewer r = let n = numbered r in ne_eqb (number_of r) fewer (λ e. omega (arith, e, n.1))
+
+-- without a place the number alone says it
+alone_back : (r : Refusal) → place_of r ≡ 0 → refusal_of (number_of r) 0 ≡ r
+alone_back r h = rw h at (refusal_back r)
 
 -- ---- reading one message of a block
 
 block_of : BlockAnswer → Result (Option Found) Refusal
-block_of r = result_of r.outcome r.bad (Some r.found) None
+block_of r =
+    cond (eqb r.outcome ok) (Ok (Some r.found))
+    (cond (eqb r.outcome fewer) (Ok None) (Err (refusal_of r.outcome r.bad)))
 
 block_back : (a : Result (Option Found) Refusal) → block_of (block_answer a) ≡ a
 unfolding block_of block_answer
 block_back (Ok (Some found)) = refl
 block_back (Ok None) = refl
-block_back (Err r) = refused_back r (Some _) None
+block_back (Err r) = rw (not_ok r, not_fewer r, refusal_back r)
 
 pub block_apart : (a b : Result (Option Found) Refusal) → block_answer a ≡ block_answer b → a ≡ b
 block_apart a b e = cc (block_back a, block_back b)
@@ -95,12 +104,12 @@ block_apart a b e = cc (block_back a, block_back b)
 -- ---- opening a block, and reading on
 
 opened_of : OpenAnswer → Result Opened Refusal
-opened_of r = let o : Opened = record { count = r.count; cursor = r.cursor } in result_of r.outcome r.bad o o
+opened_of r = cond (eqb r.outcome ok) (Ok (record { count = r.count; cursor = r.cursor })) (Err (refusal_of r.outcome r.bad))
 
 open_back : (a : Result Opened Refusal) → opened_of (open_answer a) ≡ a
 unfolding opened_of open_answer
 open_back (Ok o) = refl
-open_back (Err r) = refused_back r _ _
+open_back (Err r) = rw (not_ok r, refusal_back r)
 
 pub open_apart : (a b : Result Opened Refusal) → open_answer a ≡ open_answer b → a ≡ b
 open_apart a b e = cc (open_back a, open_back b)
@@ -133,7 +142,7 @@ read_of r = cond (eqb r.outcome ok) (ok_or (typed_of r.message) refusal.NoForm) 
 message_back : (a : Result Message Refusal) → ProperRead a → read_of (message_answer a) ≡ a
 unfolding read_of message_answer
 message_back (Ok m) h = rw (typed_plain m h)
-message_back (Err r) h = rw h at (refused_back r m m)
+message_back (Err r) h = rw (not_ok r, alone_back r h)
 
 pub message_apart : (a b : Result Message Refusal) → ProperRead a → ProperRead b → message_answer a ≡ message_answer b → a ≡ b
 message_apart a b h k e = cc (message_back a h, message_back b k)
@@ -152,18 +161,33 @@ read_apart v w d e = message_apart (read_message v d) (read_message w e) (proper
 
 -- ---- writing a message
 
-wrote_of : WriteAnswer → Wrote
-wrote_of r =
-    cond (eqb r.outcome ok) (wrote.Octets r.length)
-    (cond (eqb r.outcome 4) wrote.NoForm
-    (cond (eqb r.outcome 1) wrote.NoRoom wrote.ContentsOver))
+-- a result whose refusal has no place, which the answer would not hold
+abbrev pub Placeless : Result ℕ Refusal → Type 0
+Placeless (Ok n) = Unit
+Placeless (Err r) = place_of r ≡ 0
 
-write_back : (a : Wrote) → wrote_of (write_answer a) ≡ a
+wrote_of : WriteAnswer → Result ℕ Refusal
+wrote_of r = cond (eqb r.outcome ok) (Ok r.length) (Err (refusal_of r.outcome 0))
+
+write_back : (a : Result ℕ Refusal) → Placeless a → wrote_of (write_answer a) ≡ a
 unfolding wrote_of write_answer
-write_back (wrote.Octets n) = refl
-write_back wrote.NoForm = refl
-write_back wrote.NoRoom = refl
-write_back wrote.ContentsOver = refl
+write_back (Ok n) h = refl
+write_back (Err r) h = rw (not_ok r, alone_back r h)
 
-pub write_apart : (a b : Wrote) → write_answer a ≡ write_answer b → a ≡ b
-write_apart a b e = cc (write_back a, write_back b)
+pub write_apart : (a b : Result ℕ Refusal) → Placeless a → Placeless b → write_answer a ≡ write_answer b → a ≡ b
+write_apart a b h k e = cc (write_back a h, write_back b k)
+
+placeless : (m : Message) (c r : List ℕ) → Placeless (wrote m c r)
+unfolding wrote
+placeless m c r = by (not (has_form m)) (ltb (length r) (length (pdu_of m c))) (ltb most_contents (length (contents_of m c)))
+  where
+    by : (f s o : Bool)
+        → Placeless (cond f (Err refusal.NoForm) (cond s (Err refusal.WrongSize) (cond o (Err refusal.ContentsOver) (Ok (length (pdu_of m c))))))
+    by true s o = refl
+    by false true o = refl
+    by false false true = refl
+    by false false false = tt
+
+-- so whatever writing answers
+pub wrote_apart : (m n : Message) (c d r q : List ℕ) → write_answer (wrote m c r) ≡ write_answer (wrote n d q) → wrote m c r ≡ wrote n d q
+wrote_apart m n c d r q e = write_apart (wrote m c r) (wrote n d q) (placeless m c r) (placeless n d q) e

@@ -19,8 +19,6 @@ use Rattle.block.specs.declared.Astray.{Astray}
 use Rattle.message.specs.Reading.{read_message}
 use Rattle.message.specs.declared.Message.{Message}
 use Rattle.writing.specs.Writing as writing
-use Rattle.writing.specs.declared.Wrote.{Wrote}
-use Rattle.writing.specs.declared.Wrote.TheVariants as wrote
 use Rattle.plain.specs.Messages.{no_message, typed_of}
 use Rattle.plain.specs.declared.Plain.{Plain}
 use Rattle.sdt.specs.Blocks.{bad_with, ok, place_of, block_answer, open_answer, next_answer}
@@ -97,12 +95,10 @@ read_message_refused v d a e = rw e (message_alone (read_message v d))
 abbrev Alone : WriteAnswer → List ℕ → List ℕ → Type 0
 Alone a s r = (a ≡ record { outcome = a.outcome; length = 0 }) × (s ≡ r)
 
-wrote_alone : (w : Wrote) (m : Message) (c r : List ℕ) → (write_answer w).outcome ≢ ok → Alone (write_answer w) (writing.leaves w m c r) r
+wrote_alone : (w : Result ℕ Refusal) (m : Message) (c r : List ℕ) → (write_answer w).outcome ≢ ok → Alone (write_answer w) (writing.leaves w m c r) r
 unfolding write_answer
-wrote_alone (wrote.Octets n) m c r h = absurd (h refl)
-wrote_alone wrote.NoForm m c r h = (refl, refl)
-wrote_alone wrote.NoRoom m c r h = (refl, refl)
-wrote_alone wrote.ContentsOver m c r h = (refl, refl)
+wrote_alone (Ok n) m c r h = absurd (h refl)
+wrote_alone (Err e) m c r h = (refl, refl)
 
 typed_alone : (t : Option Message) (c r : List ℕ) → (answer_typed t c r).outcome ≢ ok → Alone (answer_typed t c r) (room_typed t c r) r
 unfolding writing.room_after write_answer

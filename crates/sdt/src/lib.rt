@@ -12,7 +12,6 @@ use block::{Astray, Cursor, Found, Opened};
 use message::Message;
 use plain::Plain;
 use refusal::Refusal;
-use writing::Wrote;
 
 // Nothing is refused.
 const OK: u32 = 0;
@@ -151,26 +150,18 @@ impl From<Result<Message, Refusal>> for MessageAnswer {
     }
 }
 
-impl From<Wrote> for WriteAnswer {
+impl From<Result<usize, Refusal>> for WriteAnswer {
     ghost from_gives = { λ wrote answer. answer ≡ write_answer wrote };
 
     #[tactic(auto, unfolding(crate::specs::Messages::write_answer))]
-    fn from(w: Wrote) -> WriteAnswer {
-        match w {
-            Wrote::Octets(length) => WriteAnswer {
+    fn from(wrote: Result<usize, Refusal>) -> WriteAnswer {
+        match wrote {
+            Ok(length) => WriteAnswer {
                 outcome: OK,
                 length,
             },
-            Wrote::NoForm => WriteAnswer {
-                outcome: 4,
-                length: 0,
-            },
-            Wrote::NoRoom => WriteAnswer {
-                outcome: 1,
-                length: 0,
-            },
-            Wrote::ContentsOver => WriteAnswer {
-                outcome: 7,
+            Err(r) => WriteAnswer {
+                outcome: r.number() as u32,
                 length: 0,
             },
         }
@@ -230,7 +221,7 @@ pub fn sdt_write_message(m: Plain, contents: &[u8], room: &mut [u8]) -> WriteAns
     ensures { SdtWriteMessageAllows m contents.now room.old (record { answer = result; room = room.new }) }
 {
     let Some(message) = plain::typed_of(m) else {
-        return WriteAnswer::from(Wrote::NoForm);
+        return WriteAnswer::from(Err(Refusal::NoForm));
     };
     WriteAnswer::from(writing::write_message(message, contents, room))
 }
