@@ -1,6 +1,9 @@
 // One channel's record: what it holds, the profile's numbers, and whether it is well formed.
 #![tactic(auto)]
 
+mod reasons;
+mod searches;
+
 ghost use Rattle.std.specs.Prelude.{◌≡◌};
 ghost use Rattle.record.specs.Profile.{nak_timeout, max_retries};
 ghost use Rattle.record.specs.Legal.{legal_names, legal_parameters};
@@ -9,10 +12,8 @@ ghost use Rattle.record.specs.WellFormed.{closed, held_right, apart, apart_from,
 
 use counter::{Counter, Reliable, Total};
 use message::{Cid, MOST_CONTENTS};
-
-mod reasons;
-
 pub use reasons::{NoReason, Reason, is_leaving_reason};
+pub use searches::lowest;
 
 // The phase of a gap, with its time left in milliseconds and the number of NAKs sent.
 #[derive(Clone, Copy, Debug, PartialEq, Eq)]
