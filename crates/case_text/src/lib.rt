@@ -99,6 +99,12 @@ pub fn trimmed_end(s: &[u8]) -> usize {
     0
 }
 
+// The octets between the blanks of both ends.
+pub fn trim(s: &[u8]) -> &[u8] {
+    let end = trimmed_end(s);
+    part(s, word_at(s, 0).from, end)
+}
+
 // The first place from `from` on, and before `to`, where b stands, or `to`.
 pub fn find(s: &[u8], from: usize, to: usize, b: u8) -> usize {
     let mut i = from;
