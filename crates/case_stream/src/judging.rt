@@ -35,18 +35,20 @@ impl Report {
         Ok(())
     }
 
-    // The lines under a step are over: if there were any, it must have given no more than they say.
-    pub fn close_step(&mut self) -> io::Result<()> {
+    // A line that is no comment and expects nothing: a case is open, and the lines under the step above are over.
+    pub fn begin_line(&mut self) -> io::Result<()> {
         match mem::replace(&mut self.stage, Stage::Open) {
-            Stage::Stepped(given) => self.close_given(&given),
-            other => {
-                self.stage = other;
+            Stage::Stepped(given) => self.close_step(&given),
+            Stage::Failed => {
+                self.stage = Stage::Failed;
                 Ok(())
             }
+            Stage::Closed | Stage::Open => Ok(()),
         }
     }
 
-    fn close_given(&mut self, given: &Given) -> io::Result<()> {
+    // If there were lines under a step, it must have given no more than they say.
+    fn close_step(&mut self, given: &Given) -> io::Result<()> {
         match (given.last, given.next()) {
             (Some(line), Some(more)) => self.fail_with(line, b"nothing more", more.as_bytes()),
             _ => Ok(()),

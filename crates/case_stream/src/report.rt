@@ -70,8 +70,11 @@ impl Report {
 
     // The open case passes, unless it has failed.
     pub fn close_case(&mut self) -> io::Result<()> {
-        self.close_step()?;
-        if matches!(&self.stage, Stage::Closed | Stage::Failed) {
+        if matches!(&self.stage, Stage::Closed) {
+            return Ok(());
+        }
+        self.begin_line()?;
+        if self.has_failed() {
             return Ok(());
         }
         self.passed = self.passed.saturating_add(1);

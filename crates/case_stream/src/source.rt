@@ -1,9 +1,8 @@
 // The input cut into lines as it comes: each turn finds a line, or a piece of one that is too long.
 use crate::report::LINE;
 use std::alloc::Global;
-use std::io;
 use std::io::{BufRead, BufReader, Read};
-use std::mem;
+use std::{io, mem};
 
 // One read asks for this many octets.
 const CHUNK: usize = 65536;
@@ -80,6 +79,10 @@ impl<R: Read + Drop> Source<R> {
     fn line(&mut self) -> Turn<'_> {
         let long = mem::replace(&mut self.long, false) || LINE < self.found.len();
         let line = self.found.as_slice();
-        if long { Turn::LongEnd(line) } else { Turn::Line(line) }
+        if long {
+            Turn::LongEnd(line)
+        } else {
+            Turn::Line(line)
+        }
     }
 }
