@@ -9,8 +9,11 @@ const FILL: u8 = 170;
 // The most octets that a piece is lent with.
 const MOST: usize = 65536;
 
-// A place and a delivery cell have this many octets.
+// A place and a delivery's cell have this many octets.
 pub const PLACE: usize = 1454;
+
+// The cell of a record's NAK or Leaving has this many.
+pub const CELL: usize = 64;
 
 // How much of each piece is lent to the next step.
 #[derive(Clone, Copy)]
@@ -73,7 +76,7 @@ impl Room {
 
     // The first octet that was changed.
     pub fn first_changed(&self) -> Option<usize> {
-        first_of(self.octets.as_slice(), |b| b != FILL)
+        self.octets.iter().position(|b| *b != FILL)
     }
 }
 
@@ -85,7 +88,7 @@ pub struct Held {
 }
 
 // Where the octets of a place begin.
-pub fn start_of(record: usize, place: usize) -> usize {
+fn start_of(record: usize, place: usize) -> usize {
     (record % 8 * 4 + place % 4) * PLACE
 }
 
@@ -116,14 +119,16 @@ impl Held {
     }
 
     // Stores contents into a place, as many as fit.
-    pub fn store(&mut self, start: usize, contents: &[u8]) {
+    pub fn store(&mut self, record: usize, place: usize, contents: &[u8]) {
+        let start = start_of(record, place);
         let stored = &contents[..contents.len().min(PLACE)];
         copy_to(self.octets.as_mut_slice(), start, stored);
         copy_to(self.before.as_mut_slice(), start, stored);
     }
 
-    // So many octets from `start` on may be others than before.
-    pub fn allow(&mut self, start: usize, len: usize) {
+    // The first octets of a place may be others than before.
+    pub fn allow(&mut self, record: usize, place: usize, len: usize) {
+        let start = start_of(record, place);
         if let Some(octets) = self.octets.as_slice().get(start..start.saturating_add(len)) {
             copy_to(self.before.as_mut_slice(), start, octets);
         }
@@ -131,6 +136,7 @@ impl Held {
 
     // The first of the n octets that is not what it was.
     pub fn first_changed(&self, n: usize) -> Option<usize> {
-        ..
+        let mut pairs = self.octets.iter().zip(&self.before).take(n);
+        pairs.position(|(now, before)| now != before)
     }
 }

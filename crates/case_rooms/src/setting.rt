@@ -1,5 +1,5 @@
 // What the lines of a case set up for its steps.
-use crate::lent::{Held, Lent, RIGHT, start_of};
+use crate::lent::{Held, Lent, RIGHT};
 use case_forms::lines::SetPlace;
 use case_forms::records::FREE;
 use record::Record;
@@ -60,7 +60,6 @@ impl Setting {
         if let Some(place) = record.places.get_mut(to.place) {
             *place = to.numbers;
         }
-        let start = start_of(to.record, to.place);
-        self.held.store(start, to.contents.as_slice());
+        self.held.store(to.record, to.place, to.contents.as_slice());
     }
 }

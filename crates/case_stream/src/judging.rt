@@ -35,8 +35,8 @@ impl Report {
         Ok(())
     }
 
-    // A line that is no comment and expects nothing: a case is open, and the lines under the step above are over.
-    pub fn begin_line(&mut self) -> io::Result<()> {
+    // The lines under the step above are over, and a case is open.
+    pub(crate) fn end_step(&mut self) -> io::Result<()> {
         match mem::replace(&mut self.stage, Stage::Open) {
             Stage::Stepped(given) => self.close_step(&given),
             Stage::Failed => {
@@ -67,7 +67,7 @@ impl Report {
             Stage::Closed | Stage::Open => {
                 self.output.keep(line)?;
                 let at = line.iter().position(|b| !is_blank(*b)).unwrap_or(0);
-                self.fail_reading(line, at, b"a step above this line")
+                self.fail_reading(line, at, "a step above this line")
             }
         }
     }

@@ -3,6 +3,7 @@ use crate::judging::Given;
 use crate::output::Output;
 use case_text::is_blank;
 use std::alloc::{AllocError, Global};
+use std::fmt::Display;
 use std::io;
 use std::io::Write;
 
@@ -14,7 +15,7 @@ const SHOWN: usize = 64;
 
 // How the case stands.
 #[derive(Drop)]
-pub enum Stage {
+pub(crate) enum Stage {
     // None is open yet: lines before the first `case` are a case with no name.
     Closed,
     Open,
@@ -28,10 +29,10 @@ pub enum Stage {
 pub struct Report {
     pub output: Output,
     // The number of the line.
-    pub line: u64,
+    pub(crate) line: u64,
     // The name of the case.
     name: Vec<u8>,
-    pub stage: Stage,
+    pub(crate) stage: Stage,
     passed: u64,
     failed: u64,
 }
@@ -48,8 +49,20 @@ impl Report {
         }
     }
 
-    pub fn has_failed(&self) -> bool {
+    pub(crate) fn has_failed(&self) -> bool {
         matches!(&self.stage, Stage::Failed)
+    }
+
+    // Every line has a number, also one that is too long.
+    pub fn count_line(&mut self) {
+        self.line = self.line.saturating_add(1);
+    }
+
+    // Another line stands in the file, which expects nothing: whether its case goes on with it.
+    pub fn begin_line(&mut self, line: &[u8]) -> io::Result<bool> {
+        self.end_step()?;
+        self.output.keep(line)?;
+        Ok(!self.has_failed())
     }
 
     // A case begins.
@@ -73,7 +86,7 @@ impl Report {
         if matches!(&self.stage, Stage::Closed) {
             return Ok(());
         }
-        self.begin_line()?;
+        self.end_step()?;
         if self.has_failed() {
             return Ok(());
         }
@@ -100,23 +113,33 @@ impl Report {
     }
 
     // The case fails at this line, for this reason.
-    pub fn fail_for(&mut self, reason: &[u8]) -> io::Result<()> {
+    pub fn fail_for<D: Display + Drop>(&mut self, reason: D) -> io::Result<()> {
         self.fail(self.line)?;
-        self.tell_line(b"     ", reason)
+        writeln!(self.output, "     {reason}")
+    }
+
+    // The case fails at this line, which is too long.
+    pub fn fail_long(&mut self) -> io::Result<()> {
+        let most = b"a line of at most 200000 characters";
+        self.fail_with(self.line, most, b"a longer one")
     }
 
     // The case fails at a line, with what was expected there and what was given.
-    pub fn fail_with(&mut self, line: u64, expected: &[u8], given: &[u8]) -> io::Result<()> {
+    pub(crate) fn fail_with(&mut self, line: u64, expected: &[u8], given: &[u8]) -> io::Result<()> {
         self.fail(line)?;
         self.tell_line(b"     expected: ", expected)?;
         self.tell_line(b"     given:    ", given)
     }
 
     // This line cannot be read from `at` on: the word that stands there is shown, or its first characters.
-    pub fn fail_reading(&mut self, line: &[u8], at: usize, expected: &[u8]) -> io::Result<()> {
+    pub fn fail_reading<D: Display + Drop>(
+        &mut self,
+        line: &[u8],
+        at: usize,
+        expected: D,
+    ) -> io::Result<()> {
         self.fail(self.line)?;
-        self.tell_line(b"     expected: ", expected)?;
-        self.output.write_all(b"     given:    ")?;
+        write!(self.output, "     expected: {expected}\n     given:    ")?;
         match word_at(line, at) {
             b"" => self.output.write_all(b"the end of the line")?,
             word if word.len() <= SHOWN => self.output.write_all(word)?,
