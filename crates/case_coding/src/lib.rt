@@ -1,7 +1,7 @@
 // The steps that need no table: reading a block, and reading and writing a message.
 #![tactic(auto)]
 
-use block::BlockRead;
+use block::{BlockRead, Found};
 use case_forms::messages::write_message;
 use case_rooms::lent::Room;
 use case_rooms::{Fault, Ran};
@@ -16,17 +16,15 @@ fn plainly(said: String) -> Ran {
 
 // Reads a block.
 pub fn block_step(alloc: Global, position: u32, octets: &[u8]) -> Result<Ran, AllocError> {
-    let said = match block::read_block(octets, position) {
-        BlockRead::Message(f) => {
-            format!(in alloc;
-                "= message vector {} data {} length {}\n",
-                f.vector, f.place, f.len
-            )?
-        },
-        BlockRead::Fewer => format!(in alloc; "= fewer\n")?,
-        BlockRead::TooLong => format!(in alloc; "= refused 1\n")?,
-        BlockRead::Malformed(at) => format!(in alloc; "= refused 11 at {at}\n")?,
-    };
+    let mut said = String::new(alloc);
+    match block::read_block(octets, position) {
+        BlockRead::Message(Found { vector, place, len }) => {
+            writeln!(said, "= message vector {vector} data {place} length {len}")?
+        }
+        BlockRead::Fewer => said.push_str("= fewer\n")?,
+        BlockRead::TooLong => said.push_str("= refused 1\n")?,
+        BlockRead::Malformed(at) => writeln!(said, "= refused 11 at {at}")?,
+    }
     Ok(plainly(said))
 }
 
