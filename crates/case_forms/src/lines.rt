@@ -89,7 +89,7 @@ impl Value for SetPlace {
         let total = r.field("total")?;
         let reliable = r.field("reliable")?;
         r.literal("contents")?;
-        let contents = r.octets_up_to(65535)?;
+        let contents = r.octets_up_to(usize::from(u16::MAX))?;
         Ok(SetPlace {
             record,
             place,
@@ -105,7 +105,7 @@ impl Value for SetPlace {
 }
 
 fn read_write(r: &mut Reader<'_>) -> Result<Step, Misread> {
-    let room = r.index(65535)?;
+    let room = r.value::<u16>()?.into();
     let message = r.value()?;
     let contents = match message {
         Message::ReliableWrapper(_) | Message::UnreliableWrapper(_) => r.field("contents")?,
@@ -126,7 +126,7 @@ impl Value for Line {
             "record" => Ok(Line::Record(r.index(7)?, r.value()?)),
             "free" => Ok(Line::Free(r.index(7)?)),
             "place" => Ok(Line::Place(r.value()?)),
-            "lend" => Ok(Line::Lend(r.value()?, r.index(65535)?)),
+            "lend" => Ok(Line::Lend(r.value()?, r.value::<u16>()?.into())),
             "message" => Ok(Line::Step(Step::Message {
                 sender: r.value()?,
                 vector: r.value()?,

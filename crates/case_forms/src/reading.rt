@@ -8,7 +8,7 @@ use message::Cid;
 use std::alloc::Global;
 use std::str;
 
-#[derive(Clone, Copy)]
+#[derive(Drop)]
 pub struct Reader<'a> {
     pub alloc: Global,
     line: &'a [u8],
@@ -39,7 +39,7 @@ impl<'a> Reader<'a> {
         self.words.next().unwrap_or(&[])
     }
 
-    // The next word as a name, which no word is that is no text.
+    // The next word as a name. One that is not UTF-8 is none.
     pub fn name(&mut self) -> &'a str {
         str::from_utf8(self.word()).unwrap_or("")
     }
@@ -74,7 +74,7 @@ impl<'a> Reader<'a> {
         }
     }
 
-    // The index of one of so many.
+    // An index up to the last.
     pub fn index(&mut self, last: u32) -> Result<usize, Misread> {
         Ok(self.number(last)? as usize)
     }

@@ -32,7 +32,7 @@ pub fn trim(s: &[u8]) -> &[u8] {
 }
 
 // The words of a line, from the first on that is not yet taken.
-#[derive(Clone, Copy)]
+#[derive(Drop)]
 pub struct Words<'a>(&'a [u8]);
 
 impl<'a> Words<'a> {
