@@ -131,6 +131,18 @@ impl Report {
         self.tell_line(b"     given:    ", given)
     }
 
+    // A word, or its first characters.
+    fn tell_word(&mut self, word: &[u8]) -> io::Result<()> {
+        match word.split_at_checked(SHOWN) {
+            _ if word.is_empty() => self.output.write_all(b"the end of the line"),
+            Some((shown, [_, ..])) => {
+                self.output.write_all(shown)?;
+                self.output.write_all(b"..")
+            }
+            _ => self.output.write_all(word),
+        }
+    }
+
     // This line cannot be read from `at` on: the word that stands there is shown, or its first characters.
     pub fn fail_reading<D: Display + Drop>(
         &mut self,
@@ -140,14 +152,7 @@ impl Report {
     ) -> io::Result<()> {
         self.fail(self.line)?;
         write!(self.output, "     expected: {expected}\n     given:    ")?;
-        match word_at(line, at) {
-            b"" => self.output.write_all(b"the end of the line")?,
-            word if word.len() <= SHOWN => self.output.write_all(word)?,
-            word => {
-                self.output.write_all(&word[..SHOWN])?;
-                self.output.write_all(b"..")?;
-            }
-        }
+        self.tell_word(word_at(line, at))?;
         let character = at.saturating_add(1);
         writeln!(self.output, ", at character {character}")
     }
