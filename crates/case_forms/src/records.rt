@@ -8,36 +8,6 @@ use record::{Gap, Place, Record, Terms};
 use std::alloc::AllocError;
 use std::fmt;
 
-const FREE_PLACE: Place = Place {
-    used: false,
-    total: Total(0),
-    reliable: Reliable(0),
-    len: 0,
-};
-
-// A free record with every field 0.
-pub const FREE: Record = Record {
-    used: false,
-    terms: Terms {
-        owner: Cid { high: 0, low: 0 },
-        channel: 0,
-        mid: 0,
-        reciprocal: 0,
-        expiry: 0,
-        outbound: false,
-        holdoff: 0,
-        modulus: 0,
-        maxwait: 0,
-    },
-    total: Total(0),
-    reliable: Reliable(0),
-    known: Reliable(0),
-    acked: Reliable(0),
-    idle: 0,
-    gap: Gap::Quiet,
-    places: [FREE_PLACE; 4],
-};
-
 // ---- reading
 
 impl Value for Gap {
@@ -57,6 +27,13 @@ impl Value for Gap {
         }
     }
 }
+
+const FREE_PLACE: Place = Place {
+    used: false,
+    total: Total(0),
+    reliable: Reliable(0),
+    len: 0,
+};
 
 // A used record. Its places are no part of its line: they are free.
 impl Value for Record {

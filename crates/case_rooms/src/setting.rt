@@ -1,9 +1,9 @@
 // What the lines of a case set up for its steps.
 use crate::lent::{Held, Lent, RIGHT};
 use case_forms::lines::SetPlace;
-use case_forms::records::FREE;
 use record::Record;
 use std::alloc::{AllocError, Global};
+use table::free_table;
 
 #[derive(Drop)]
 pub struct Setting {
@@ -19,7 +19,7 @@ impl Setting {
     pub fn new(alloc: Global) -> Result<Setting, AllocError> {
         Ok(Setting {
             alloc,
-            table: [FREE; 8],
+            table: free_table(),
             held: Held::new(alloc)?,
             ours: vec![in alloc; 0; 16]?,
             lent: RIGHT,
@@ -28,7 +28,7 @@ impl Setting {
 
     // All is as a case starts with it.
     pub fn clear(&mut self) -> Result<(), AllocError> {
-        self.table = [FREE; 8];
+        self.table = free_table();
         self.held.clear();
         self.ours.clear();
         self.ours.resize(16, 0)?;
