@@ -134,9 +134,13 @@ impl Held {
         }
     }
 
-    // The first of the n octets that is not what it was.
+    // The first of the n octets that is not what it was. They are compared whole first, which is much faster.
     pub fn first_changed(&self, n: usize) -> Option<usize> {
-        let mut pairs = self.octets.iter().zip(&self.before).take(n);
-        pairs.position(|(now, before)| now != before)
+        let now = self.octets.as_slice().get(..n)?;
+        let before = self.before.as_slice().get(..n)?;
+        if now == before {
+            return None;
+        }
+        now.iter().zip(before).position(|(a, b)| a != b)
     }
 }
