@@ -1,4 +1,5 @@
 // An elapsed call: what each record sends as time passes.
+use case_forms::Spelled;
 use case_forms::records::write_changes;
 use case_rooms::lent::{CELL, Room};
 use case_rooms::setting::Setting;
@@ -25,18 +26,18 @@ fn say_cell(said: &mut String, room: &mut Room, i: usize, cell: Cell) -> Result<
 
 pub fn elapsed_step(setting: &mut Setting, ms: u32) -> Result<Ran, AllocError> {
     let mut room = Room::new(setting.alloc, setting.lent.cells)?;
-    let passed = member::elapsed(setting.table, room.lend(), ms);
     let mut said = String::new(setting.alloc);
-    if passed.number != 0 {
-        writeln!(said, "= refused {}", passed.number)?;
-    } else {
-        said.push_str("= taken\n")?;
-        for (i, cell) in passed.cells.iter().enumerate() {
-            say_cell(&mut said, &mut room, i, *cell)?;
+    match member::elapsed(setting.table, room.lend(), ms) {
+        Err(refusal) => writeln!(said, "= {}", Spelled(refusal))?,
+        Ok(passed) => {
+            said.push_str("= taken\n")?;
+            for (i, cell) in passed.cells.iter().enumerate() {
+                say_cell(&mut said, &mut room, i, *cell)?;
+            }
+            write_changes(&mut said, &setting.table, &passed.table)?;
+            setting.table = passed.table;
         }
     }
-    write_changes(&mut said, &setting.table, &passed.table)?;
-    setting.table = passed.table;
     let fault = room.first_changed().map(Fault::Cells);
     Ok(Ran { said, fault })
 }

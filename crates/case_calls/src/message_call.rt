@@ -1,6 +1,7 @@
 // A message call: what it delivers, holds, throws out and replies, and the octets that it may write for that.
 use crate::say_reply;
 use carry::Delivery;
+use case_forms::Spelled;
 use case_forms::records::write_changes;
 use case_rooms::lent::{Held, PLACE, Room};
 use case_rooms::setting::Setting;
@@ -87,7 +88,7 @@ pub fn message_step(
 ) -> Result<Ran, AllocError> {
     let held = setting.lent.held;
     let mut rooms = Rooms::new(setting)?;
-    let sent = member::message(
+    let answer = member::message(
         setting.table,
         setting.held.lend(held),
         rooms.deliver.lend(),
@@ -99,13 +100,15 @@ pub fn message_step(
         reciprocal,
     );
     let mut said = String::new(setting.alloc);
-    match sent.given {
-        Given::Refused(number) => writeln!(said, "= refused {number}")?,
-        _ => rooms.say_taken(&mut said, &sent)?,
+    match answer {
+        Err(refusal) => writeln!(said, "= {}", Spelled(refusal))?,
+        Ok(sent) => {
+            rooms.say_taken(&mut said, &sent)?;
+            allow_held(&mut setting.held, &sent);
+            write_changes(&mut said, &setting.table, &sent.table)?;
+            setting.table = sent.table;
+        }
     }
-    allow_held(&mut setting.held, &sent);
-    write_changes(&mut said, &setting.table, &sent.table)?;
-    setting.table = sent.table;
     let fault = setting
         .held
         .first_changed(held)

@@ -1,13 +1,13 @@
 // The steps that need no table: reading a block, and reading and writing a message.
 #![tactic(auto)]
 
-use block::{BlockRead, Found};
+use block::Found;
+use case_forms::Spelled;
 use case_forms::messages::write_message;
 use case_rooms::lent::Room;
 use case_rooms::{Fault, Ran};
-use message::{Message, MessageRead};
+use message::Message;
 use std::alloc::{AllocError, Global};
-use writing::Wrote;
 
 // A step that is lent nothing changes nothing.
 fn plainly(said: String) -> Ran {
@@ -18,12 +18,11 @@ fn plainly(said: String) -> Ran {
 pub fn block_step(alloc: Global, position: u32, octets: &[u8]) -> Result<Ran, AllocError> {
     let mut said = String::new(alloc);
     match block::read_block(octets, position) {
-        BlockRead::Message(Found { vector, place, len }) => {
+        Ok(Some(Found { vector, place, len })) => {
             writeln!(said, "= message vector {vector} data {place} length {len}")?
         }
-        BlockRead::Fewer => said.push_str("= fewer\n")?,
-        BlockRead::TooLong => said.push_str("= refused 1\n")?,
-        BlockRead::Malformed(at) => writeln!(said, "= refused 11 at {at}")?,
+        Ok(None) => said.push_str("= fewer\n")?,
+        Err(refusal) => writeln!(said, "= {}", Spelled(refusal))?,
     }
     Ok(plainly(said))
 }
@@ -32,8 +31,8 @@ pub fn block_step(alloc: Global, position: u32, octets: &[u8]) -> Result<Ran, Al
 pub fn read_step(alloc: Global, vector: u8, data: &[u8]) -> Result<Ran, AllocError> {
     let mut said = String::new(alloc);
     match message::read_message(vector, data) {
-        MessageRead::Read(m) => write_message(&mut said, m, data.get(20..).unwrap_or(&[]))?,
-        MessageRead::Unreadable => said.push_str("= refused 4\n")?,
+        Ok(m) => write_message(&mut said, m, data.get(20..).unwrap_or(&[]))?,
+        Err(refusal) => writeln!(said, "= {}", Spelled(refusal))?,
     }
     Ok(plainly(said))
 }
@@ -48,14 +47,12 @@ pub fn write_step(
     let mut room = Room::new(alloc, room)?;
     let mut said = String::new(alloc);
     match writing::write_message(m, contents, room.lend()) {
-        Wrote::Octets(len) => {
+        Ok(len) => {
             said.push_str("= wrote ")?;
             room.say(&mut said, 0, len)?;
             said.push_str("\n")?;
         }
-        Wrote::NoForm => said.push_str("= refused 4\n")?,
-        Wrote::NoRoom => said.push_str("= refused 1\n")?,
-        Wrote::ContentsOver => said.push_str("= refused 7\n")?,
+        Err(refusal) => writeln!(said, "= {}", Spelled(refusal))?,
     }
     Ok(Ran {
         said,

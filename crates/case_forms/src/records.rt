@@ -1,10 +1,11 @@
-// A record and its places as lines: what a line sets, and the lines that say what a call has changed.
+// A record and its places as lines: what a line sets, and the lines that say what a call has changed, or why it was refused.
 use crate::Spelled;
 use crate::misread::{Misread, Wanted};
 use crate::reading::{Reader, Value};
 use counter::{Reliable, Total};
 use message::Cid;
 use record::{Gap, Place, Record, Terms};
+use refusal::Refusal;
 use std::alloc::AllocError;
 use std::fmt;
 
@@ -89,6 +90,16 @@ impl fmt::Display for Spelled<Gap> {
     }
 }
 
+// A refusal's number. Of a malformed block the place follows.
+impl fmt::Display for Spelled<Refusal> {
+    fn fmt<W: fmt::Write>(&self, f: &mut fmt::Formatter<W>) -> fmt::Result {
+        match self.0 {
+            Refusal::Malformed(at) => write!(f, "refused 11 at {at}"),
+            refusal => write!(f, "refused {}", refusal.number()),
+        }
+    }
+}
+
 fn used(used: bool) -> &'static str {
     if used { "used" } else { "free" }
 }
@@ -133,53 +144,6 @@ fn write_place(said: &mut String, i: usize, j: usize, p: Place) -> Result<(), Al
     )
 }
 
-// ---- comparing
-
-fn is_same_terms(a: Terms, b: Terms) -> bool {
-    a.owner.high == b.owner.high
-        && a.owner.low == b.owner.low
-        && a.channel == b.channel
-        && a.mid == b.mid
-        && a.reciprocal == b.reciprocal
-        && a.expiry == b.expiry
-        && a.outbound == b.outbound
-        && a.holdoff == b.holdoff
-        && a.modulus == b.modulus
-        && a.maxwait == b.maxwait
-}
-
-fn is_same_gap(a: Gap, b: Gap) -> bool {
-    match (a, b) {
-        (Gap::Quiet, Gap::Quiet) => true,
-        (Gap::Standoff { left, count }, Gap::Standoff { left: l, count: c }) => {
-            left == l && count == c
-        }
-        (Gap::Waiting { left, count }, Gap::Waiting { left: l, count: c }) => {
-            left == l && count == c
-        }
-        _ => false,
-    }
-}
-
-fn is_same_place(a: &Place, b: &Place) -> bool {
-    a.used == b.used && a.total.0 == b.total.0 && a.reliable.0 == b.reliable.0 && a.len == b.len
-}
-
-fn is_same(a: &Record, b: &Record) -> bool {
-    a.used == b.used
-        && is_same_terms(a.terms, b.terms)
-        && a.total.0 == b.total.0
-        && a.reliable.0 == b.reliable.0
-        && a.known.0 == b.known.0
-        && a.acked.0 == b.acked.0
-        && a.idle == b.idle
-        && is_same_gap(a.gap, b.gap)
-        && a.places
-            .iter()
-            .zip(&b.places)
-            .all(|(p, q)| is_same_place(p, q))
-}
-
 // A record that changed, and each of its places that did.
 fn write_changed(
     said: &mut String,
@@ -187,12 +151,12 @@ fn write_changed(
     before: &Record,
     after: &Record,
 ) -> Result<(), AllocError> {
-    if is_same(before, after) {
+    if before == after {
         return Ok(());
     }
     write_record(said, i, *after)?;
     for (j, (p, q)) in before.places.iter().zip(&after.places).enumerate() {
-        if !is_same_place(p, q) {
+        if p != q {
             write_place(said, i, j, *q)?;
         }
     }
