@@ -22,8 +22,7 @@ pub enum Asked {
 }
 
 // The CID that 16 octets are.
-pub fn cid_of(s: &[u8]) -> Cid
-    requires { length s.now ≡ 16 }
+pub fn cid_of(s: &[u8; 16]) -> Cid
     ensures { result ≡ cid_at s.now 0 }
 {
     Cid {

@@ -14,7 +14,7 @@ use record::Terms;
 use wrapper::Reply;
 use writing::Wrote;
 
-// The octets of a reply room, and of the cell that a record sends from as time passes (01, "Room").
+// The octets of a reply room.
 pub const ROOM: usize = 64;
 
 // Writes a message that has a form and fits at the front of a room, and answers how many octets it takes.
@@ -29,7 +29,8 @@ fn put_message(room: &mut [u8], m: Message) -> usize
 }
 
 // A Leaving.
-pub fn put_leaving(room: &mut [u8; ROOM], terms: Terms, reliable: Reliable, reason: u8) -> usize
+pub fn put_leaving(room: &mut [u8], terms: Terms, reliable: Reliable, reason: u8) -> usize
+    requires { 64 ≤ length room.old }
     ensures { Put (sent_of (departure terms reliable reason)) result room.old room.new }
 {
     put_message(room, joining::departure_of(terms, reliable, reason))
@@ -57,7 +58,8 @@ pub fn put_reply(room: &mut [u8; ROOM], terms: Terms, reply: Reply) -> usize
 }
 
 // What a channel sends as time passes.
-pub fn put_event(room: &mut [u8; ROOM], terms: Terms, event: Event) -> usize
+pub fn put_event(room: &mut [u8], terms: Terms, event: Event) -> usize
+    requires { 64 ≤ length room.old }
     ensures { Put (event_of terms event) result room.old room.new }
 {
     match event {
