@@ -1,6 +1,6 @@
 -- What the proofs of `record` share, the laws of a well-formed record, and laws on lists and choices that the crates above share too.
 pub mod Choices
-pub mod Lowest
+pub mod Searching
 pub mod Stored
 pub mod Profile
 pub mod Leaves

@@ -1,6 +1,8 @@
 // One channel's record: what it holds, the profile's numbers, and whether it is well formed.
 #![tactic(auto)]
 
+mod searches;
+
 ghost use Rattle.std.specs.Prelude.{◌≡◌};
 ghost use Rattle.record.specs.Profile.{nak_timeout, max_retries};
 ghost use Rattle.record.specs.Legal.{legal_names, legal_parameters};
@@ -10,6 +12,7 @@ ghost use Rattle.record.specs.WellFormed.{closed, held_right, apart, held_apart,
 
 use counter::{Reliable, Total, reliable_distance, same_reliable};
 use message::{Cid, MOST_CONTENTS};
+pub use searches::lowest;
 
 // The phase of a gap, with its time left in milliseconds and the number of NAKs sent.
 #[derive(Clone, Copy)]
