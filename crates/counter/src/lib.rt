@@ -2,70 +2,82 @@
 // two types, so no comparison or sum takes one for the other.
 #![tactic(auto)]
 
-ghost use Rattle.std.specs.Prelude.{◌≡◌, ◌==◌};
+ghost use Rattle.std.specs.Prelude.{◌≡◌, ℕ};
 ghost use Rattle.counter.specs.Distance.{ahead, distance};
 ghost use Rattle.counter.specs.Steps.{next, previous, before};
 
 // A total number: it counts every wrapper of a channel.
-#[derive(Clone, Copy)]
+#[derive(Clone, Copy, Debug, PartialEq, Eq)]
 pub struct Total(pub u32);
 
 // A reliable number: it counts the reliable wrappers of a channel.
-#[derive(Clone, Copy)]
+#[derive(Clone, Copy, Debug, PartialEq, Eq)]
 pub struct Reliable(pub u32);
+
+// What both counters are: a number of 32 bits that turns past zero, and its distance to another number of the same counter.
+pub trait Counter: Copy {
+    ghost number: { Self → ℕ };
+
+    fn number(self) -> u32
+        ensures { result ≡ number self };
+
+    // How far `new` lies ahead of this number, turning past zero; from the half turn on it lies behind.
+    final fn distance_to(self, new: Self) -> i32
+        ensures { result ≡ distance (number self) (number new) }
+    {
+        signed_distance(self.number(), new.number())
+    }
+}
+
+impl Counter for Total {
+    ghost number = { λ x. x.0 };
+
+    fn number(self) -> u32 {
+        self.0
+    }
+}
+
+impl Counter for Reliable {
+    ghost number = { λ x. x.0 };
+
+    fn number(self) -> u32 {
+        self.0
+    }
+}
 
 // How far to count up from `old` to `new`, turning past zero.
 fn ahead_of(old: u32, new: u32) -> u32
     ensures { result ≡ ahead old new }
 {
-    std::num::wrapping_sub_u32(new, old)
+    new.wrapping_sub(old)
 }
 
 // The same read as a signed number: from the half turn on it lies behind.
 fn signed_distance(old: u32, new: u32) -> i32
     ensures { result ≡ distance old new }
 {
-    let n = ahead_of(old, new);
-    if n < 2147483648 {
-        n as i32
-    } else {
-        -1 - ((4294967295 - n) as i32)
+    ahead_of(old, new).cast_signed()
+}
+
+impl Reliable {
+    // The number after this one.
+    pub fn next(self) -> Reliable
+        ensures { result.0 ≡ next self.0 }
+    {
+        Reliable(self.0.wrapping_add(1))
     }
-}
 
-pub fn total_distance(old: Total, new: Total) -> i32
-    ensures { result ≡ distance old.0 new.0 }
-{
-    signed_distance(old.0, new.0)
-}
+    // The number before this one.
+    pub fn previous(self) -> Reliable
+        ensures { result.0 ≡ previous self.0 }
+    {
+        Reliable(self.0.wrapping_sub(1))
+    }
 
-pub fn reliable_distance(old: Reliable, new: Reliable) -> i32
-    ensures { result ≡ distance old.0 new.0 }
-{
-    signed_distance(old.0, new.0)
-}
-
-pub fn same_reliable(a: Reliable, b: Reliable) -> bool
-    ensures { result ≡ (a.0 == b.0) }
-{
-    a.0 == b.0
-}
-
-// `reliable` less the threshold: with a last acknowledged number past this one no ACK is due.
-pub fn threshold_number(reliable: Reliable, threshold: u16) -> Reliable
-    ensures { result.0 ≡ before threshold reliable.0 }
-{
-    Reliable(std::num::wrapping_sub_u32(reliable.0, threshold as u32))
-}
-
-pub fn next_reliable(reliable: Reliable) -> Reliable
-    ensures { result.0 ≡ next reliable.0 }
-{
-    Reliable(std::num::wrapping_add_u32(reliable.0, 1))
-}
-
-pub fn previous_reliable(reliable: Reliable) -> Reliable
-    ensures { result.0 ≡ previous reliable.0 }
-{
-    Reliable(std::num::wrapping_sub_u32(reliable.0, 1))
+    // This number less the threshold: with a last acknowledged number past it no ACK is due.
+    pub fn before(self, threshold: u16) -> Reliable
+        ensures { result.0 ≡ before threshold self.0 }
+    {
+        Reliable(self.0.wrapping_sub(threshold as u32))
+    }
 }

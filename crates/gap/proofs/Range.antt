@@ -9,6 +9,7 @@ use native.Mathlib.Omega.{arith}
 use lib.Dec.{ltb}
 use lib.Signed.{lt_z}
 use borrow.Author.Tests.{ltb-true, ltb-false, eqb-false, ne_eqb}
+use Rattle.std.specs.Prelude.{Option, Some, None}
 use Rattle.counter.specs.Distance.{turn, ahead, distance}
 use Rattle.counter.specs.Steps.{next, previous}
 use Rattle.counter.specs.declared.Reliable.{Reliable}
@@ -26,8 +27,6 @@ use Rattle.gap.specs.Elapsed.{elapsed_of}
 use Rattle.gap.specs.declared.Event.{Event}
 use Rattle.gap.specs.declared.Event.TheVariants as event
 use Rattle.gap.specs.declared.Elapsed.{Elapsed}
-use Rattle.gap.specs.declared.Nearest.{Nearest}
-use Rattle.gap.specs.declared.Nearest.TheVariants.{Held, Nothing}
 use Rattle.gap.proofs.Moves.{Next, quiet, stands_on, asks, waits_on, once_more, Move, stands, expires, lost, goes_on, moves}
 
 -- one before a number is one fewer ahead, if there was one
@@ -45,36 +44,36 @@ ahead_previous a b ha h =
 -- R and K, less than half a turn apart
 module _ (r k : Reliable) (known : ahead r.0 k.0 < 2147483648) where
   -- a found number lies as a held one does
-  abbrev Fine : Nearest → Type 0
-  Fine (Held h) = (2 ≤ ahead r.0 h.0) × (ahead r.0 h.0 ≤ ahead r.0 k.0)
-  Fine Nothing = Unit {0}
+  abbrev Fine : Option Reliable → Type 0
+  Fine (Some h) = (2 ≤ ahead r.0 h.0) × (ahead r.0 h.0 ≤ ahead r.0 k.0)
+  Fine None = Unit {0}
 
   -- there is a found number, and at most d numbers lead to it
-  abbrev Within : ℕ → Nearest → Type 0
-  Within d (Held h) = ahead r.0 h.0 ≤ d
-  Within d Nothing = ⊥
+  abbrev Within : ℕ → Option Reliable → Type 0
+  Within d (Some h) = ahead r.0 h.0 ≤ d
+  Within d None = ⊥
 
   -- m is found after n by the place p
-  record Nearer (n : Nearest) (p : Place) (m : Nearest) : Type 0 where
+  record Nearer (n : Option Reliable) (p : Place) (m : Option Reliable) : Type 0 where
     fine : Fine m
     kept : (d : ℕ) → Within d n → Within d m
     place : p.used ≡ true → Within (ahead r.0 p.reliable.0) m
 
-  nearer_is : (n : Nearest) (p : Place) → Fine n → (p.used ≡ true → formed.Held r.0 k.0 p) → Nearer n p (nearer r n p)
+  nearer_is : (n : Option Reliable) (p : Place) → Fine n → (p.used ≡ true → formed.Held r.0 k.0 p) → Nearer n p (nearer r n p)
   unfolding nearer
-  nearer_is Nothing p f h = by p.used refl
+  nearer_is None p f h = by p.used refl
     where
-      by : (t : Bool) → p.used ≡ t → Nearer Nothing p (cond t (Held p.reliable) Nothing)
+      by : (t : Bool) → p.used ≡ t → Nearer None p (cond t (Some p.reliable) None)
       by true u = record { fine = ((h u).beyond, (h u).within); kept = λ d w. absurd w; place = λ v. omega arith }
       by false u = record { fine = tt; kept = λ d w. w; place = λ v. absurd (false≢true (sym u ∙ v)) }
-  nearer_is (Held x) p f h = by p.used (lt_z (distance r.0 p.reliable.0) (distance r.0 x.0)) refl refl
+  nearer_is (Some x) p f h = by p.used (lt_z (distance r.0 p.reliable.0) (distance r.0 x.0)) refl refl
     where
       by : (t s : Bool) → p.used ≡ t → lt_z (distance r.0 p.reliable.0) (distance r.0 x.0) ≡ s
-          → Nearer (Held x) p (cond t (cond s (Held p.reliable) (Held x)) (Held x))
+          → Nearer (Some x) p (cond t (cond s (Some p.reliable) (Some x)) (Some x))
       by false s u e = record { fine = f; kept = λ d w. w; place = λ v. absurd (false≢true (sym u ∙ v)) }
       by true s u e = test s (sym (test_nearer r.0 p.reliable.0 r.0 x.0 (omega (arith, (h u).within)) (omega arith)) ∙ e)
         where
-          test : (s : Bool) → ltb (ahead r.0 p.reliable.0) (ahead r.0 x.0) ≡ s → Nearer (Held x) p (cond s (Held p.reliable) (Held x))
+          test : (s : Bool) → ltb (ahead r.0 p.reliable.0) (ahead r.0 x.0) ≡ s → Nearer (Some x) p (cond s (Some p.reliable) (Some x))
           test true e =
               let c = ltb-true (ahead r.0 p.reliable.0) (ahead r.0 x.0) e in
               record { fine = ((h u).beyond, (h u).within); kept = λ d w. omega arith; place = λ v. omega arith }
@@ -83,12 +82,12 @@ module _ (r k : Reliable) (known : ahead r.0 k.0 < 2147483648) where
               record { fine = f; kept = λ d w. w; place = λ v. c }
 
   -- m is found after n by the places ps
-  record NearestOf (n : Nearest) (ps : List Place) (m : Nearest) : Type 0 where
+  record NearestOf (n : Option Reliable) (ps : List Place) (m : Option Reliable) : Type 0 where
     fine : Fine m
     kept : (d : ℕ) → Within d n → Within d m
     places : (i : ℕ) → (place_at ps i).used ≡ true → Within (ahead r.0 (place_at ps i).reliable.0) m
 
-  after : {n q m : Nearest} {p : Place} {ps : List Place} → Nearer n p q → NearestOf q ps m → NearestOf n (p ∷ ps) m
+  after : {n q m : Option Reliable} {p : Place} {ps : List Place} → Nearer n p q → NearestOf q ps m → NearestOf n (p ∷ ps) m
   after {n} {q} {m} {p} {ps} one rest =
       record { fine = rest.fine; kept = λ d w. rest.kept d (one.kept d w); places = at }
     where
@@ -96,7 +95,7 @@ module _ (r k : Reliable) (known : ahead r.0 k.0 < 2147483648) where
       at zero u = rest.kept _ (one.place u)
       at (suc i) u = rest.places i u
 
-  nearest_is : (ps : List Place) (n : Nearest) → Fine n
+  nearest_is : (ps : List Place) (n : Option Reliable) → Fine n
       → ((i : ℕ) → (place_at ps i).used ≡ true → formed.Held r.0 k.0 (place_at ps i))
       → NearestOf n ps (nearest r n ps)
   unfolding nearest
@@ -108,10 +107,10 @@ module _ (r k : Reliable) (known : ahead r.0 k.0 < 2147483648) where
 -- ---- the range
 
 ends : (r k : Reliable) (h : ahead r.0 k.0 < 2147483648) (ps : List Place) → r.0 < turn → 1 ≤ ahead r.0 k.0
-    → (m : Nearest) → NearestOf r k h Nothing ps m → OnlyMissing r.0 k.0 ps (next r.0) (end_by m k).0
-ends r k h ps hr gap Nothing f =
+    → (m : Option Reliable) → NearestOf r k h None ps m → OnlyMissing r.0 k.0 ps (next r.0) (end_by m k).0
+ends r k h ps hr gap None f =
     record { begins = refl; some = gap; within = omega arith; missing = λ i u. absurd (f.places i u) }
-ends r k h ps hr gap (Held n) f =
+ends r k h ps hr gap (Some n) f =
     let less = ahead_previous r.0 n.0 hr (omega (arith, f.fine.0)) in
     record {
       begins = refl;
@@ -129,7 +128,7 @@ range r hr hk w u g =
     let apart : r.known.0 ≢ r.reliable.0 = eqb-false _ _ g in
     let some : ahead r.reliable.0 r.known.0 ≢ 0 = λ e. apart (sym ((ahead_zero _ _ hr hk).0 e)) in
     ends r.reliable r.known f.known r.places hr (omega arith) _
-    (nearest_is r.reliable r.known f.known r.places Nothing tt f.held)
+    (nearest_is r.reliable r.known f.known r.places None tt f.held)
 
 gap_open : (r : Record) → r.known.0 ≢ r.reliable.0 → closed r ≡ false
 unfolding closed

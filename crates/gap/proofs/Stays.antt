@@ -1,20 +1,20 @@
 -- Elapsed time leaves a record well formed: a Leaving frees it, and all else keeps its used record within the bounds of its phase.
 -- Assumes nothing.
 use Prim.Native.Nat.{ℕ, ◌*◌, ◌<◌, ◌≤◌}
-use mathlib.Core.Bool.{Bool, true, false, cond}
+use mathlib.Core.Bool.{Bool, true, false}
 use mathlib.Core.Logic.{◌≢◌}
 use mathlib.Core.Path.{◌≡◌, refl}
+use Rattle.std.proofs.Math.Nat.{min-le_left}
 use native.Mathlib.Omega.{arith}
-use lib.Dec.{ltb}
-use borrow.Author.Tests.{ltb-true}
 use Rattle.counter.specs.declared.Reliable.{Reliable}
 use Rattle.record.specs.With.{with_gap, with_idle}
 use Rattle.record.specs.WellFormed.{well_formed}
 use Rattle.record.specs.declared.Gap.{Gap}
+use Rattle.record.specs.declared.reasons.Reason.{Reason}
 use Rattle.record.specs.declared.Record.{Record}
 use Rattle.record.proofs.Choices.{never}
 use Rattle.record.proofs.Formed.{Phase, Formed, formed, well_formed_lem, free_formed}
-use Rattle.gap.specs.Standoff.{min, standoff, standoff_of}
+use Rattle.gap.specs.Standoff.{standoff, standoff_of}
 use Rattle.gap.specs.Elapsed.{elapsed_of}
 use Rattle.gap.specs.declared.Event.{Event}
 use Rattle.gap.specs.declared.Event.TheVariants.{Leaving}
@@ -46,17 +46,10 @@ idle_kept r n w h = by r.used refl
     by true u = let f = formed r w u in well_formed_lem (later_formed n r.gap h f.gap f)
     by false u = free_formed (with_idle r n) u
 
-min_most : (a b : ℕ) → min a b ≤ a
-min_most a b = by (ltb b a) refl
-  where
-    by : (t : Bool) → ltb b a ≡ t → cond t b a ≤ a
-    by true e = omega (arith, ltb-true b a e)
-    by false e = omega arith
-
 -- a standoff takes at most maxwait
 pub standoff_most : (r : Record) → standoff_of r ≤ r.terms.maxwait
 unfolding standoff_of standoff
-standoff_most r = min_most _ _
+standoff_most r = min-le_left _ _
 
 -- a phase that goes on stays within its bounds
 next_phase : (r : Record) (ms : ℕ) {g h : Gap} {e : Event} → Next r ms g h e
@@ -68,7 +61,7 @@ next_phase r ms (waits_on l) p = (p.0, p.1, p.2, omega arith)
 next_phase r ms (once_more l n) p = (p.0, omega arith, standoff_most r)
 
 -- and sends no Leaving
-next_sends : {r : Record} {ms : ℕ} {g h : Gap} {e : Event} → Next r ms g h e → (reason : ℕ) (n : Reliable) → e ≢ Leaving reason n
+next_sends : {r : Record} {ms : ℕ} {g h : Gap} {e : Event} → Next r ms g h e → (reason : Reason) (n : Reliable) → e ≢ Leaving reason n
 next_sends quiet reason n e = never (cc)
 next_sends (stands_on l) reason n e = never (cc)
 next_sends (asks l) reason n e = never (cc)
@@ -90,25 +83,25 @@ pub elapsed_formed : (r : Record) (ms : ℕ) → well_formed r ≡ true → well
 elapsed_formed r ms = move_formed r ms (moves r ms)
 
 module _ (r : Record) (ms : ℕ) where
-  move_frees : {o : Elapsed} → Move r ms o → (reason : ℕ) (n : Reliable) → o.event ≡ Leaving reason n → (o.after.used ≡ false) × (n ≡ r.reliable)
+  move_frees : {o : Elapsed} → Move r ms o → (reason : Reason) (n : Reliable) → o.event ≡ Leaving reason n → (o.after.used ≡ false) × (n ≡ r.reliable)
   move_frees (stands u) reason n e = never (cc)
   move_frees (expires u x) reason n e = (refl, cc)
   move_frees (lost u x g l c) reason n e = (refl, cc)
   move_frees (goes_on u x m) reason n e = absurd (next_sends m reason n e)
 
   -- every Leaving frees the record and carries R
-  pub leaving_frees : (reason : ℕ) (n : Reliable) → (elapsed_of r ms).event ≡ Leaving reason n
+  pub leaving_frees : (reason : Reason) (n : Reliable) → (elapsed_of r ms).event ≡ Leaving reason n
       → ((elapsed_of r ms).after.used ≡ false) × (n ≡ r.reliable)
   leaving_frees = move_frees (moves r ms)
 
-  move_keeps : {o : Elapsed} → Move r ms o → ((reason : ℕ) (n : Reliable) → o.event ≢ Leaving reason n) → o.after.used ≡ r.used
+  move_keeps : {o : Elapsed} → Move r ms o → ((reason : Reason) (n : Reliable) → o.event ≢ Leaving reason n) → o.after.used ≡ r.used
   move_keeps (stands u) other = refl
   move_keeps (expires u x) other = absurd (other _ _ refl)
   move_keeps (lost u x g l c) other = absurd (other _ _ refl)
   move_keeps (goes_on u x m) other = refl
 
   -- and nothing else frees it
-  pub others_keep : ((reason : ℕ) (n : Reliable) → (elapsed_of r ms).event ≢ Leaving reason n) → (elapsed_of r ms).after.used ≡ r.used
+  pub others_keep : ((reason : Reason) (n : Reliable) → (elapsed_of r ms).event ≢ Leaving reason n) → (elapsed_of r ms).after.used ≡ r.used
   others_keep = move_keeps (moves r ms)
 
   move_terms : {o : Elapsed} → Move r ms o → o.after.terms ≡ r.terms

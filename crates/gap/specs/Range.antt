@@ -1,35 +1,33 @@
 -- The range of a NAK (01, "One channel", elapsed): all that is missing before the nearest held wrapper, or all up to K.
-use Rattle.std.specs.Prelude.{ℕ, ◌<◌, ◌≤◌, true, cond, List, [], ◌∷◌, ◌≡◌}
+use Rattle.std.specs.Prelude.{ℕ, ◌<◌, ◌≤◌, true, cond, List, ◌≡◌, Option, Some, None}
 use Rattle.std.specs.Int.Signed.{lt_z}
+use Rattle.std.specs.List.{fold}
 use Rattle.counter.specs.Distance.{ahead, distance}
 use Rattle.counter.specs.Steps.{next, previous}
 use Rattle.counter.specs.declared.Reliable.{Reliable}
 use Rattle.record.specs.Places.{place_at}
 use Rattle.record.specs.declared.Place.{Place}
 use Rattle.record.specs.declared.Record.{Record}
-use Rattle.gap.specs.declared.Nearest.{Nearest}
-use Rattle.gap.specs.declared.Nearest.TheVariants.{Held, Nothing}
 
 -- of the number found so far and what a place holds, the one at the lesser distance from r
-unfoldable pub nearer : Reliable → Nearest → Place → Nearest
-nearer r Nothing p = cond p.used (Held p.reliable) Nothing
-nearer r (Held n) p =
+unfoldable pub nearer : Reliable → Option Reliable → Place → Option Reliable
+nearer r None p = cond p.used (Some p.reliable) None
+nearer r (Some n) p =
     cond p.used
-    (cond (lt_z (distance r.0 p.reliable.0) (distance r.0 n.0)) (Held p.reliable) (Held n))
-    (Held n)
+    (cond (lt_z (distance r.0 p.reliable.0) (distance r.0 n.0)) (Some p.reliable) (Some n))
+    (Some n)
 
-unfoldable pub nearest : Reliable → Nearest → List Place → Nearest
-nearest r found [] = found
-nearest r found (p ∷ ps) = nearest r (nearer r found p) ps
+unfoldable pub nearest : Reliable → Option Reliable → List Place → Option Reliable
+nearest r found ps = fold (nearer r) found ps
 
 -- one before the nearest held number, or k if none is held
-abbrev pub end_by : Nearest → Reliable → Reliable
-end_by (Held n) k = record { 0 = previous n.0 }
-end_by Nothing k = k
+abbrev pub end_by : Option Reliable → Reliable → Reliable
+end_by (Some n) k = record { 0 = previous n.0 }
+end_by None k = k
 
 -- where the NAK of a record ends
 unfoldable pub nak_last : Record → Reliable
-nak_last r = end_by (nearest r.reliable Nothing r.places) r.known
+nak_last r = end_by (nearest r.reliable None r.places) r.known
 
 -- and where it begins: at R + 1
 unfoldable pub nak_first : Record → Reliable

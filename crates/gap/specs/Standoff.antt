@@ -1,9 +1,6 @@
 -- The standoff before a NAK (01, "One channel").
-use Rattle.std.specs.Prelude.{ℕ, ◌+◌, ◌*◌, ◌%◌, cond, ltb}
+use Rattle.std.specs.Prelude.{ℕ, ◌+◌, ◌*◌, ◌%◌, min}
 use Rattle.record.specs.declared.Record.{Record}
-
-abbrev pub min : ℕ → ℕ → ℕ
-min a b = cond (ltb b a) b a
 
 -- (R + MID) modulo the modulus, times holdoff, and at most maxwait. R + MID is a plain sum: it does not turn past 2^32
 unfoldable pub standoff : ℕ → ℕ → ℕ → ℕ → ℕ → ℕ

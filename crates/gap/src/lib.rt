@@ -9,18 +9,11 @@ ghost use Rattle.gap.specs.Standoff.{standoff, standoff_of};
 ghost use Rattle.gap.specs.Range.{nearer, nearest, nak_last};
 ghost use Rattle.gap.specs.Elapsed.{in_standoff, in_wait, phased, elapsed_of};
 
-use counter::{Reliable, next_reliable, previous_reliable, reliable_distance};
-use record::{Gap, Place, Record, free_record, max_retries, nak_timeout, with_gap};
-
-// The nearest held reliable number, if one is held.
-#[derive(Clone, Copy)]
-pub enum Nearest {
-    Held(Reliable),
-    Nothing,
-}
+use counter::{Counter, Reliable};
+use record::{Gap, Place, Reason, Record, Terms, max_retries, nak_timeout};
 
 // What elapsed time makes a channel send: nothing, a NAK with R, its range and whether it goes outbound too, or Leaving with its reason and R.
-#[derive(Clone, Copy)]
+#[derive(Clone, Copy, Debug, PartialEq, Eq)]
 pub enum Event {
     Nothing,
     Nak {
@@ -29,179 +22,135 @@ pub enum Event {
         last: Reliable,
         outbound: bool,
     },
-    Leaving(u8, Reliable),
+    Leaving(Reason, Reliable),
 }
 
 // A record after elapsed time, and what is sent.
-#[derive(Clone, Copy)]
+#[derive(Clone, Copy, Debug, PartialEq, Eq)]
 pub struct Elapsed {
     pub after: Record,
     pub event: Event,
 }
 
-// The time of a standoff. The sum is not wrapped.
-pub fn standoff_time(reliable: Reliable, mid: u16, modulus: u16, holdoff: u16, maxwait: u16) -> u32
-    requires { 0 < modulus }
-    ensures { (result ≡ standoff reliable.0 mid modulus holdoff maxwait) × (result ≤ maxwait) }
+// The time of a standoff. The sum is not wrapped. Of a modulus of 0, which no well-formed record has, the sum is its own remainder.
+pub fn standoff_time(reliable: Reliable, terms: Terms) -> u32
+    ensures { (result ≡ standoff reliable.0 terms.mid terms.modulus terms.holdoff terms.maxwait) × (result ≤ terms.maxwait) }
 {
-    let sum = (reliable.0 as u64) + (mid as u64);
-    let time = sum % (modulus as u64) * (holdoff as u64);
-    if time < (maxwait as u64) {
-        time as u32
-    } else {
-        maxwait as u32
-    }
+    let sum = (reliable.0 as u64) + (terms.mid as u64);
+    let rest = sum.checked_rem(terms.modulus as u64).unwrap_or(sum);
+    let time = rest * (terms.holdoff as u64);
+    time.min(terms.maxwait as u64) as u32
 }
 
 // The time of a record's standoff.
+#[tactic(auto, unfolding(crate::specs::Standoff::standoff_of))]
 pub fn standoff_of(r: Record) -> u32
-    requires { 0 < r.terms.modulus }
     ensures { (result ≡ standoff_of r) × (result ≤ r.terms.maxwait) }
 {
-    let terms = r.terms;
-    let reliable = r.reliable;
-    standoff_time(
-        reliable,
-        terms.mid,
-        terms.modulus,
-        terms.holdoff,
-        terms.maxwait,
-    )
+    standoff_time(r.reliable, r.terms)
 }
 
 // Of the number found so far and a place, the number that is nearer to R.
-fn nearer_of(reliable: Reliable, found: Nearest, p: Place) -> Nearest
-    ensures { result ≡ nearer reliable found p }
+#[tactic(auto, unfolding(crate::specs::Range::nearer))]
+fn nearer_of(reliable: Reliable, found: Option<Reliable>, place: Place) -> Option<Reliable>
+    ensures { result ≡ nearer reliable found place }
 {
-    if !p.used {
+    if !place.used {
         return found;
     }
-    let held = p.reliable;
-    let Nearest::Held(near) = found else {
-        return Nearest::Held(held);
-    };
-    if reliable_distance(reliable, held) < reliable_distance(reliable, near) {
-        return Nearest::Held(held);
+    match found {
+        Some(near) if reliable.distance_to(near) <= reliable.distance_to(place.reliable) => found,
+        _ => Some(place.reliable),
     }
-    found
 }
 
 // The nearest held number.
-fn nearest_of(reliable: Reliable, places: [Place; 4]) -> Nearest
-    ensures { result ≡ nearest reliable Nearest.Nothing places }
+#[tactic(auto, unfolding(crate::specs::Range::nearest))]
+fn nearest_of(reliable: Reliable, places: &[Place]) -> Option<Reliable>
+    ensures { result ≡ nearest reliable None places.now }
 {
-    let a = places[0];
-    let b = places[1];
-    let c = places[2];
-    let d = places[3];
-    let first = nearer_of(reliable, Nearest::Nothing, a);
-    let second = nearer_of(reliable, first, b);
-    let third = nearer_of(reliable, second, c);
-    nearer_of(reliable, third, d)
+    places
+        .iter()
+        .fold(None, |found, place| nearer_of(reliable, found, *place))
 }
 
 // Where a NAK ends: one before the nearest held number, or at K.
+#[tactic(auto, unfolding(crate::specs::Range::nak_last))]
 pub fn nak_last(r: Record) -> Reliable
     ensures { result ≡ nak_last r }
 {
-    let reliable = r.reliable;
-    let known = r.known;
-    let places = r.places;
-    let Nearest::Held(near) = nearest_of(reliable, places) else {
-        return known;
-    };
-    previous_reliable(near)
-}
-
-fn idle_more(r: Record, ms: u32) -> Record
-    requires { (r.idle < 255000) × (ms ≤ 1000) }
-    ensures { result ≡ with_idle r (r.idle + ms) }
-{
-    let mut s = r;
-    s.idle = r.idle + ms;
-    s
-}
-
-fn less(left: u32, ms: u32) -> u32
-    ensures { result ≡ left - ms }
-{
-    if ms < left { left - ms } else { 0 }
+    nearest_of(r.reliable, &r.places).map_or(r.known, |near| near.previous())
 }
 
 // A standoff of which `left` milliseconds are left: at 0 a NAK is sent and its wait begins.
+#[tactic(auto, unfolding(crate::specs::Elapsed::in_standoff, crate::specs::Range::nak_first))]
 fn in_standoff(r: Record, left: u32, count: u8) -> Elapsed
     requires { count < max_retries }
     ensures { result ≡ in_standoff r left count }
 {
     if left == 0 {
-        let terms = r.terms;
-        let reliable = r.reliable;
-        let gap = Gap::Waiting {
-            left: nak_timeout(terms.expiry),
-            count: count + 1,
-        };
         return Elapsed {
-            after: with_gap(r, gap),
+            after: r.with_gap(Gap::Waiting {
+                left: nak_timeout(r.terms.expiry),
+                count: count + 1,
+            }),
             event: Event::Nak {
-                reliable,
-                first: next_reliable(reliable),
+                reliable: r.reliable,
+                first: r.reliable.next(),
                 last: nak_last(r),
-                outbound: terms.outbound,
+                outbound: r.terms.outbound,
             },
         };
     }
     Elapsed {
-        after: with_gap(r, Gap::Standoff { left, count }),
+        after: r.with_gap(Gap::Standoff { left, count }),
         event: Event::Nothing,
     }
 }
 
 // A wait of which `left` milliseconds are left: at 0 the channel is left if all NAKs are spent, else a standoff begins.
+#[tactic(auto, unfolding(crate::specs::Elapsed::in_wait))]
 fn in_wait(r: Record, left: u32, count: u8) -> Elapsed
-    requires { 0 < r.terms.modulus }
     ensures { result ≡ in_wait r left count }
 {
-    if left == 0 {
-        if count == max_retries() {
-            let reliable = r.reliable;
-            let spent = with_gap(r, Gap::Waiting { left, count });
-            return Elapsed {
-                after: free_record(spent),
-                event: Event::Leaving(record::LOST_SEQUENCE, reliable),
-            };
-        }
-        let gap = Gap::Standoff {
-            left: standoff_of(r),
-            count,
-        };
+    if left == 0 && count == max_retries() {
         return Elapsed {
-            after: with_gap(r, gap),
-            event: Event::Nothing,
+            after: r.with_gap(Gap::Waiting { left, count }).freed(),
+            event: Event::Leaving(Reason::LostSequence, r.reliable),
         };
     }
+    let gap = if left == 0 {
+        Gap::Standoff {
+            left: standoff_of(r),
+            count,
+        }
+    } else {
+        Gap::Waiting { left, count }
+    };
     Elapsed {
-        after: with_gap(r, Gap::Waiting { left, count }),
+        after: r.with_gap(gap),
         event: Event::Nothing,
     }
 }
 
 // The phase's time falls by `ms`, and the phase makes one move if none is left.
+#[tactic(auto, unfolding(crate::specs::Elapsed::phased))]
 fn phase_step(r: Record, ms: u32) -> Elapsed
     requires { (r.used ≡ true) × (well_formed r ≡ true) }
     ensures { result ≡ phased r r.gap ms }
 {
-    let gap = r.gap;
-    match gap {
+    match r.gap {
         Gap::Quiet => Elapsed {
             after: r,
             event: Event::Nothing,
         },
-        Gap::Standoff { left, count } => in_standoff(r, less(left, ms), count),
-        Gap::Waiting { left, count } => in_wait(r, less(left, ms), count),
+        Gap::Standoff { left, count } => in_standoff(r, left.saturating_sub(ms), count),
+        Gap::Waiting { left, count } => in_wait(r, left.saturating_sub(ms), count),
     }
 }
 
 // What `ms` milliseconds do to a record.
+#[tactic(auto, unfolding(crate::specs::Elapsed::elapsed_of))]
 pub fn elapsed_step(r: Record, ms: u32) -> Elapsed
     requires { (well_formed r ≡ true) × (ms ≤ 1000) }
     ensures { result ≡ elapsed_of r ms }
@@ -212,14 +161,15 @@ pub fn elapsed_step(r: Record, ms: u32) -> Elapsed
             event: Event::Nothing,
         };
     }
-    let expiry = r.terms.expiry;
-    let reliable = r.reliable;
-    let s = idle_more(r, ms);
-    if (expiry as u32) * 1000 <= s.idle {
+    let later = Record {
+        idle: r.idle + ms,
+        ..r
+    };
+    if (r.terms.expiry as u32) * 1000 <= later.idle {
         return Elapsed {
-            after: free_record(s),
-            event: Event::Leaving(record::CHANNEL_EXPIRED, reliable),
+            after: later.freed(),
+            event: Event::Leaving(Reason::ChannelExpired, r.reliable),
         };
     }
-    phase_step(s, ms)
+    phase_step(later, ms)
 }

@@ -12,7 +12,7 @@ use octets::{u16_at, u32_at, u64_at};
 
 // A component's identifier: its 16 octets as two numbers, so that it compares in two tests.
 #[repr(C)]
-#[derive(Clone, Copy, PartialEq, Eq)]
+#[derive(Clone, Copy, Debug, PartialEq, Eq)]
 pub struct Cid {
     pub high: u64,
     pub low: u64,

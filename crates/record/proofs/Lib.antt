@@ -3,5 +3,5 @@ pub mod Choices
 pub mod Searching
 pub mod Stored
 pub mod Profile
-pub mod Leaves
+pub mod Unread
 pub mod Formed

@@ -2,6 +2,7 @@
 pub use Rattle.message.specs.Lengths.{most_contents}
 use Rattle.std.specs.Prelude.{◌*◌, Bool, true, cond, not, ◌&&◌, List, [], ◌∷◌, ltb, leb, eqb, pos}
 use Rattle.std.specs.Int.Signed.{le_z}
+use Rattle.std.specs.List.{list_all}
 use Rattle.counter.specs.Distance.{distance}
 use Rattle.counter.specs.declared.Reliable.{Reliable}
 use Rattle.record.specs.Profile.{nak_timeout, max_retries}
@@ -26,16 +27,14 @@ unfoldable pub apart : Place → Place → Bool
 apart p q = not (p.used && q.used && eqb p.reliable.0 q.reliable.0)
 
 unfoldable pub apart_from : Place → List Place → Bool
-apart_from p [] = true
-apart_from p (q ∷ qs) = apart p q && apart_from p qs
+apart_from p qs = list_all (apart p) qs
 
 unfoldable pub held_apart : List Place → Bool
 held_apart [] = true
 held_apart (p ∷ ps) = apart_from p ps && held_apart ps
 
 unfoldable pub held_all_right : Reliable → Reliable → List Place → Bool
-held_all_right r k [] = true
-held_all_right r k (p ∷ ps) = held_right r k p && held_all_right r k ps
+held_all_right r k ps = list_all (held_right r k) ps
 
 -- there is no gap: everything that is known to be sent was processed
 unfoldable pub closed : Record → Bool

@@ -1,30 +1,32 @@
 // One channel's record: what it holds, the profile's numbers, and whether it is well formed.
 #![tactic(auto)]
 
+mod reasons;
 mod searches;
 
 ghost use Rattle.std.specs.Prelude.{◌≡◌};
 ghost use Rattle.record.specs.Profile.{nak_timeout, max_retries};
 ghost use Rattle.record.specs.Legal.{legal_names, legal_parameters};
-ghost use Rattle.record.specs.Reasons.{leaving_reason};
 ghost use Rattle.record.specs.With.{freed, with_gap, free_place};
-ghost use Rattle.record.specs.WellFormed.{closed, held_right, apart, held_apart, held_all_right, gap_right, terms_right, well_formed};
+ghost use Rattle.record.specs.WellFormed.{closed, held_right, apart, apart_from, held_apart, held_all_right, gap_right, terms_right, well_formed};
 
-use counter::{Reliable, Total, reliable_distance, same_reliable};
+use counter::{Counter, Reliable, Total};
 use message::{Cid, MOST_CONTENTS};
+pub use reasons::{NoReason, Reason, is_leaving_reason};
 pub use searches::lowest;
 
 // The phase of a gap, with its time left in milliseconds and the number of NAKs sent.
-#[derive(Clone, Copy)]
+#[derive(Clone, Copy, Debug, PartialEq, Eq)]
 pub enum Gap {
     Quiet,
     Standoff { left: u32, count: u8 },
     Waiting { left: u32, count: u8 },
 }
 
-// A place for a held wrapper: its numbers and the length of its contents. A free place keeps what it held.
-#[derive(Clone, Copy)]
+// A place for a held wrapper: its numbers and the length of its contents.
+#[derive(Clone, Copy, Debug, PartialEq, Eq)]
 pub struct Place {
+    // Beside the rest, and no `Option` of it: a free place keeps what it held (01, "Room"; `free_place`).
     pub used: bool,
     pub total: Total,
     pub reliable: Reliable,
@@ -32,7 +34,7 @@ pub struct Place {
 }
 
 // What the Join fixed for the channel's life.
-#[derive(Clone, Copy)]
+#[derive(Clone, Copy, Debug, PartialEq, Eq)]
 pub struct Terms {
     pub owner: Cid,
     pub channel: u16,
@@ -45,9 +47,10 @@ pub struct Terms {
     pub maxwait: u16,
 }
 
-// A channel: `total` is 01's T, `reliable` R, `known` K and `acked` A. A free record keeps what its last step left.
-#[derive(Clone, Copy)]
+// A channel: `total` is 01's T, `reliable` R, `known` K and `acked` A.
+#[derive(Clone, Copy, Debug, PartialEq, Eq)]
 pub struct Record {
+    // Beside the rest, and no `Option` of it: a free record keeps what its last step left (01, "Room"; `freed`).
     pub used: bool,
     pub terms: Terms,
     pub total: Total,
@@ -59,21 +62,6 @@ pub struct Record {
     pub places: [Place; 4],
 }
 
-// Reason codes (000, Table 6).
-pub const ILLEGAL_PARAMETERS: u8 = 2;
-
-pub const LOW_RESOURCES: u8 = 3;
-
-pub const ALREADY_MEMBER: u8 = 4;
-
-pub const BAD_ADDRESS: u8 = 5;
-
-pub const NO_RECIPROCAL: u8 = 6;
-
-pub const CHANNEL_EXPIRED: u8 = 7;
-
-pub const LOST_SEQUENCE: u8 = 8;
-
 // The profile's numbers: the least expiry in seconds, the milliseconds that a NAK waits for each second of expiry, and the number of NAKs.
 const MIN_EXPIRY_TIME: u8 = 2;
 
@@ -81,6 +69,7 @@ const NAK_TIMEOUT_FACTOR: u32 = 100;
 
 const NAK_MAX_RETRIES: u8 = 3;
 
+#[tactic(auto, unfolding(crate::specs::Profile::max_retries))]
 pub fn max_retries() -> u8
     ensures { result ≡ max_retries }
 {
@@ -88,6 +77,7 @@ pub fn max_retries() -> u8
 }
 
 // How long a NAK waits for its wrappers.
+#[tactic(auto, unfolding(crate::specs::Profile::nak_timeout, crate::specs::Profile::nak_timeout_factor))]
 pub fn nak_timeout(expiry: u8) -> u32
     ensures { result ≡ nak_timeout expiry }
 {
@@ -95,240 +85,151 @@ pub fn nak_timeout(expiry: u8) -> u32
 }
 
 // Channel and MID as a Join may have them.
+#[tactic(auto, unfolding(crate::specs::Legal::legal_names))]
 pub fn legal_names(channel: u16, mid: u16) -> bool
     ensures { result ≡ legal_names channel mid }
 {
-    if channel == 0 {
-        return false;
-    }
-    if mid == 0 {
-        return false;
-    }
-    mid != 65535
+    channel != 0 && mid != 0 && mid != 65535
 }
 
 // Modulus and expiry as a Join may have them.
+#[tactic(auto, unfolding(crate::specs::Legal::legal_parameters, crate::specs::Profile::min_expiry))]
 pub fn legal_parameters(modulus: u16, expiry: u8) -> bool
     ensures { result ≡ legal_parameters modulus expiry }
 {
-    if modulus == 0 {
-        return false;
-    }
-    MIN_EXPIRY_TIME <= expiry
+    modulus != 0 && MIN_EXPIRY_TIME <= expiry
 }
 
-// A held wrapper is two or more ahead of R, not past K, and its contents fit.
-fn held_right(reliable: Reliable, known: Reliable, p: Place) -> bool
-    ensures { result ≡ held_right reliable known p }
-{
-    if !p.used {
-        return true;
-    }
-    let held = p.reliable;
-    let e = reliable_distance(reliable, held);
-    if e < 2 {
-        return false;
-    }
-    if reliable_distance(reliable, known) < e {
-        return false;
-    }
-    (p.len as usize) <= MOST_CONTENTS
-}
-
-// Two places do not hold the same reliable number.
-fn are_apart(p: Place, q: Place) -> bool
-    ensures { result ≡ apart p q }
-{
-    if !p.used {
-        return true;
-    }
-    if !q.used {
-        return true;
-    }
-    let a = p.reliable;
-    let b = q.reliable;
-    !same_reliable(a, b)
-}
-
-// The phase fits the record's numbers.
-#[tactic(auto, using(crate::proofs::Leaves::phases), unfolding(crate::specs::Profile::max_retries))]
-fn gap_right(gap: Gap, shut: bool, terms: Terms) -> bool
-    ensures { result ≡ gap_right gap shut terms }
-{
-    match gap {
-        Gap::Quiet => shut,
-        Gap::Standoff { left, count } => {
-            if shut {
-                return false;
+impl Gap {
+    // The phase fits the record's numbers: `shut` says that there is no gap.
+    #[tactic(auto, unfolding(crate::specs::WellFormed::gap_right, crate::specs::Profile::max_retries))]
+    fn is_right(self, shut: bool, terms: Terms) -> bool
+        ensures { result ≡ gap_right self shut terms }
+    {
+        match self {
+            Gap::Quiet => shut,
+            Gap::Standoff { left, count } => {
+                !shut && count < NAK_MAX_RETRIES && left <= (terms.maxwait as u32)
             }
-            if NAK_MAX_RETRIES <= count {
-                return false;
+            Gap::Waiting { left, count } => {
+                !shut && 1 <= count && count <= NAK_MAX_RETRIES && left <= nak_timeout(terms.expiry)
             }
-            left <= (terms.maxwait as u32)
-        }
-        Gap::Waiting { left, count } => {
-            if shut {
-                return false;
-            }
-            if count == 0 {
-                return false;
-            }
-            if NAK_MAX_RETRIES < count {
-                return false;
-            }
-            left <= nak_timeout(terms.expiry)
         }
     }
 }
 
-// Whether there is no gap.
-pub fn is_closed(r: Record) -> bool
-    ensures { result ≡ closed r }
-{
-    let known = r.known;
-    let reliable = r.reliable;
-    same_reliable(known, reliable)
-}
+impl Place {
+    // A held wrapper is two or more ahead of R, not past K, and its contents fit.
+    #[tactic(auto, unfolding(crate::specs::WellFormed::held_right))]
+    fn is_right(self, reliable: Reliable, known: Reliable) -> bool
+        ensures { result ≡ held_right reliable known self }
+    {
+        if !self.used {
+            return true;
+        }
+        let ahead = reliable.distance_to(self.reliable);
+        2 <= ahead && ahead <= reliable.distance_to(known) && (self.len as usize) <= MOST_CONTENTS
+    }
 
-// Held numbers differ.
-fn held_apart(places: [Place; 4]) -> bool
-    ensures { result ≡ held_apart places }
-{
-    let a = places[0];
-    let b = places[1];
-    let c = places[2];
-    let d = places[3];
-    if !are_apart(a, b) {
-        return false;
+    // Two places do not hold the same reliable number.
+    #[tactic(auto, unfolding(crate::specs::WellFormed::apart))]
+    fn is_apart(self, other: Place) -> bool
+        ensures { result ≡ apart self other }
+    {
+        !(self.used && other.used && self.reliable == other.reliable)
     }
-    if !are_apart(a, c) {
-        return false;
+
+    // Nor does any of the others.
+    #[tactic(auto, unfolding(crate::specs::WellFormed::apart_from))]
+    fn is_apart_from(self, others: &[Place]) -> bool
+        ensures { result ≡ apart_from self others.now }
+    {
+        others.iter().all(|other| self.is_apart(*other))
     }
-    if !are_apart(a, d) {
-        return false;
+
+    // The place marked free.
+    pub fn freed(self) -> Place
+        ensures { result ≡ free_place self }
+    {
+        Place {
+            used: false,
+            ..self
+        }
     }
-    if !are_apart(b, c) {
-        return false;
-    }
-    if !are_apart(b, d) {
-        return false;
-    }
-    are_apart(c, d)
 }
 
 // Every held wrapper is right.
-fn held_all_right(reliable: Reliable, known: Reliable, places: [Place; 4]) -> bool
-    ensures { result ≡ held_all_right reliable known places }
+#[tactic(auto, unfolding(crate::specs::WellFormed::held_all_right))]
+fn held_all_right(reliable: Reliable, known: Reliable, places: &[Place]) -> bool
+    ensures { result ≡ held_all_right reliable known places.now }
 {
-    let a = places[0];
-    let b = places[1];
-    let c = places[2];
-    let d = places[3];
-    if !held_right(reliable, known, a) {
-        return false;
-    }
-    if !held_right(reliable, known, b) {
-        return false;
-    }
-    if !held_right(reliable, known, c) {
-        return false;
-    }
-    held_right(reliable, known, d)
+    places.iter().all(|p| p.is_right(reliable, known))
 }
 
-// The terms of a used record are those that a Join may have.
-fn terms_right(t: Terms) -> bool
-    ensures { result ≡ terms_right t }
+// Held numbers differ.
+#[tactic(auto, unfolding(crate::specs::WellFormed::held_apart))]
+fn held_apart(places: &[Place]) -> bool
+    ensures { result ≡ held_apart places.now }
 {
-    if !legal_names(t.channel, t.mid) {
-        return false;
+    let mut rest = places;
+    while let Some((place, others)) = rest.split_first() {
+        if !place.is_apart_from(others) {
+            return false;
+        }
+        rest = others;
     }
-    if !legal_parameters(t.modulus, t.expiry) {
-        return false;
-    }
-    t.reciprocal != 0
+    true
 }
 
-// Whether a record is well formed. Any record is taken.
-pub fn is_well_formed(r: Record) -> bool
-    ensures { result ≡ well_formed r }
-{
-    if !r.used {
-        return true;
-    }
-    let terms = r.terms;
-    if !terms_right(terms) {
-        return false;
-    }
-    let reliable = r.reliable;
-    let known = r.known;
-    if reliable_distance(reliable, known) < 0 {
-        return false;
-    }
-    let places = r.places;
-    if !held_all_right(reliable, known, places) {
-        return false;
-    }
-    if !held_apart(places) {
-        return false;
-    }
-    let gap = r.gap;
-    if !gap_right(gap, is_closed(r), terms) {
-        return false;
-    }
-    r.idle < (terms.expiry as u32) * 1000
-}
-
-// Whether a Leaving may carry this reason: nonspecific, or one from no reciprocal channel to asked to leave.
-pub fn is_leaving_reason(reason: u8) -> bool
-    ensures { result ≡ leaving_reason reason }
-{
-    if reason == 1 {
-        return true;
-    }
-    if reason < 6 {
-        return false;
-    }
-    reason <= 11
-}
-
-// The record with another gap.
-pub fn with_gap(r: Record, gap: Gap) -> Record
-    ensures { result ≡ with_gap r gap }
-{
-    let terms = r.terms;
-    let total = r.total;
-    let reliable = r.reliable;
-    let known = r.known;
-    let acked = r.acked;
-    let places = r.places;
-    Record {
-        used: r.used,
-        terms,
-        total,
-        reliable,
-        known,
-        acked,
-        idle: r.idle,
-        gap,
-        places,
+impl Terms {
+    // The terms of a used record are those that a Join may have.
+    #[tactic(auto, unfolding(crate::specs::WellFormed::terms_right))]
+    fn is_right(self) -> bool
+        ensures { result ≡ terms_right self }
+    {
+        legal_names(self.channel, self.mid)
+            && legal_parameters(self.modulus, self.expiry)
+            && self.reciprocal != 0
     }
 }
 
-// The record marked free.
-pub fn free_record(r: Record) -> Record
-    ensures { result ≡ freed r }
-{
-    let mut s = r;
-    s.used = false;
-    s
-}
+impl Record {
+    // Whether there is no gap.
+    #[tactic(auto, unfolding(crate::specs::WellFormed::closed))]
+    pub fn is_closed(self) -> bool
+        ensures { result ≡ closed self }
+    {
+        self.known == self.reliable
+    }
 
-// The place marked free.
-pub fn free_place(p: Place) -> Place
-    ensures { result ≡ free_place p }
-{
-    let mut q = p;
-    q.used = false;
-    q
+    // Whether a record is well formed. Any record is taken.
+    #[tactic(auto, unfolding(crate::specs::WellFormed::well_formed))]
+    pub fn is_well_formed(self) -> bool
+        ensures { result ≡ well_formed self }
+    {
+        !self.used
+            || (self.terms.is_right()
+                && 0 <= self.reliable.distance_to(self.known)
+                && held_all_right(self.reliable, self.known, &self.places)
+                && held_apart(&self.places)
+                && self.gap.is_right(self.is_closed(), self.terms)
+                && self.idle < (self.terms.expiry as u32) * 1000)
+    }
+
+    // The record with another gap.
+    pub fn with_gap(self, gap: Gap) -> Record
+        ensures { result ≡ with_gap self gap }
+    {
+        Record { gap, ..self }
+    }
+
+    // The record marked free.
+    pub fn freed(self) -> Record
+        ensures { result ≡ freed self }
+    {
+        Record {
+            used: false,
+            ..self
+        }
+    }
 }

@@ -1,5 +1,6 @@
 -- What one step delivers is in turn: each reliable wrapper is at distance 1 from R as it is then and an unreliable one at distance 0, each
 -- total number lies ahead of T as it is then, and T and R afterwards are the numbers of the last one. Assumes nothing.
+use Prim.{Unit}
 use Prim.Native.Nat.{ℕ, zero, suc, ◌<◌}
 use mathlib.Core.Bool.{Bool, true, false, cond, not, ◌&&◌, and-eq-true_iff, false≢true}
 use mathlib.Core.List.{List, [], ◌∷◌, ◌++◌, map, map-append, append_assoc, append-nil}
@@ -11,33 +12,30 @@ use lib.ListN.{length, take, length-set}
 use lib.Seq.{take-suc-set}
 use lib.Signed.{le_z}
 use borrow.Author.Tests.{eqb-true, le-leb}
+use Rattle.std.specs.Prelude.{Option, Some, None, Result, Ok, Err, is_ok}
 use Rattle.counter.specs.Distance.{distance}
 use Rattle.counter.specs.declared.Total.{Total}
 use Rattle.counter.specs.declared.Reliable.{Reliable}
-use Rattle.record.specs.Reasons.{lost_sequence}
 use Rattle.record.specs.WellFormed.{closed}
-use Rattle.record.specs.With.{freed, with_numbers, with_acked, with_gap}
+use Rattle.record.specs.With.{with_numbers, with_acked, with_gap}
 use Rattle.record.specs.declared.Gap.TheVariants as gap
 use Rattle.record.specs.declared.Record.{Record}
 use Rattle.record.proofs.Choices.{either}
 use Rattle.gap.specs.Standoff.{standoff_of}
+use Rattle.refusal.specs.declared.Refusal.{Refusal}
+use Rattle.refusal.specs.declared.Refusal.TheVariants.{Old, Inconsistent}
 use Rattle.wrapper.specs.Judge.{consistent, judged_by, judged, heard}
 use Rattle.wrapper.specs.Hold.{is, next_one, place_for, held_as, put_in, placed}
-use Rattle.wrapper.specs.Release.{next_held, passes, release_by, release_at, released}
-use Rattle.wrapper.specs.Settle.{lost, begun, gapped, asked, spared, acknowledged, settled}
+use Rattle.wrapper.specs.Release.{next_held, release_by, release_at, released}
+use Rattle.wrapper.specs.Settle.{lost, begun, gapped, asked, spared, acknowledged, settled_by, settled}
 use Rattle.wrapper.specs.Taken.{taken}
 use Rattle.wrapper.specs.Since.{Since}
 use Rattle.wrapper.specs.InTurn.{Delivery, itself, held_in, deliveries, InTurnTo}
 use Rattle.wrapper.specs.declared.Arrived.{Arrived}
 use Rattle.wrapper.specs.declared.Fate.TheVariants as fate
-use Rattle.wrapper.specs.declared.Gapped.{Gapped}
-use Rattle.wrapper.specs.declared.Judged.{Judged}
-use Rattle.wrapper.specs.declared.Judged.TheVariants.{Old, Inconsistent, Fresh}
 use Rattle.wrapper.specs.declared.Placed.{Placed}
 use Rattle.wrapper.specs.declared.Released.{Released}
 use Rattle.wrapper.specs.declared.Reply.TheVariants as reply
-use Rattle.wrapper.specs.declared.Search.{Search}
-use Rattle.wrapper.specs.declared.Search.TheVariants.{At, Nowhere}
 use Rattle.wrapper.specs.declared.Settled.{Settled}
 use Rattle.wrapper.proofs.Releasing.{held_at, passing, release_is, along}
 use Rattle.wrapper.proofs.ReleaseIsDone.{since_start, since_more, untouched, count_below, found_next}
@@ -63,25 +61,24 @@ above_zero (pos (suc n)) e = le-leb 1 (suc n) (omega arith)
 above_zero (negsuc n) e = absurd (false≢true (sym e))
 
 -- a fresh wrapper's total number lies ahead of T
-fresh_ahead : (s : Bool) (d e : ℤ) → judged_by s d e ≡ Fresh → le_z (pos 1) d ≡ true
+fresh_ahead : (s : Bool) (d e : ℤ) → judged_by s d e ≡ Ok tt → le_z (pos 1) d ≡ true
 unfolding judged_by
 fresh_ahead s d e j = by (le_z d (pos 0)) (consistent s d e) refl j
   where
-    by : (o c : Bool) → le_z d (pos 0) ≡ o → cond o Old (cond c Fresh Inconsistent) ≡ Fresh → le_z (pos 1) d ≡ true
+    by : (o c : Bool) → le_z d (pos 0) ≡ o → cond o (Err Old) (cond c (Ok (tt {0})) (Err Inconsistent)) ≡ Ok (tt {0}) → le_z (pos 1) d ≡ true
     by true c p q =
         let z : ◌≡◌ {A = ℕ} 0 1 = cc in
         absurd (omega arith)
     by false c p q = above_zero d p
 
-fresh_total : (r : Record) (s : Bool) (t : Total) (n : Reliable) → judged r s t n ≡ Fresh
+fresh_total : (r : Record) (s : Bool) (t : Total) (n : Reliable) → judged r s t n ≡ Ok tt
     → le_z (pos 1) (distance r.total.0 t.0) ≡ true
 unfolding judged
 fresh_total r s t n j = fresh_ahead s _ (distance r.reliable.0 n.0) j
 
-passes_fresh : (j : Judged) → passes j ≡ true → j ≡ Fresh
-passes_fresh Fresh e = refl
-passes_fresh Old e = absurd (false≢true e)
-passes_fresh Inconsistent e = absurd (false≢true e)
+ok_passes : (j : Result (Unit {0}) Refusal) → is_ok j ≡ true → j ≡ Ok tt
+ok_passes (Ok x) e = refl
+ok_passes (Err x) e = absurd (false≢true e)
 
 -- ---- step 3
 
@@ -94,12 +91,12 @@ module _ (r : Record) (w : Arrived) where
       delivered : Placed
       delivered = record { after = with_numbers r w.total w.reliable; fate = fate.Delivered }
 
-      by : (b : Bool) → is (cond w.reliably 1 0) (distance r.reliable.0 w.reliable.0) ≡ b → (g : Search)
+      by : (b : Bool) → is (cond w.reliably 1 0) (distance r.reliable.0 w.reliable.0) ≡ b → (g : Option ℕ)
           → InTurnTo r.total r.reliable (itself (cond b delivered (put_in r w g)).fate w) (cond b delivered (put_in r w g)).after.total
           (cond b delivered (put_in r w g)).after.reliable
       by true e g = (is_number (cond w.reliably 1 0) (distance r.reliable.0 w.reliable.0) e, f, (refl, refl))
-      by false e (At i) = (refl, refl)
-      by false e Nowhere = (refl, refl)
+      by false e (Some i) = (refl, refl)
+      by false e None = (refl, refl)
 
 -- ---- step 4
 
@@ -113,7 +110,7 @@ module _ (r : Record) (four : length r.places ≡ 4) (t : Total) (n : Reliable) 
   module _
       (s : Released)
       (i : ℕ)
-      (e : next_held s.after.reliable 0 s.after.places ≡ At i)
+      (e : next_held s.after.reliable s.after.places ≡ Some i)
       (since : Since r s)
       (c : SoFar s)
     where
@@ -123,7 +120,7 @@ module _ (r : Record) (four : length r.places ≡ 4) (t : Total) (n : Reliable) 
       delivered_more : passing s i ≡ true → SoFar (release_by true s i (held_at s i))
       delivered_more p =
           let room : s.count < length s.order = omega (arith, count_below r four s i e since, since.room) in
-          let passed = passes_fresh (judged s.after true (held_at s i).total (held_at s i).reliable) p in
+          let passed = ok_passes (judged s.after true (held_at s i).total (held_at s i).reliable) p in
           rw
           (add-one s.count, take-suc-set s.order s.count i room, map-append (held_in r.places) (take s.count s.order) (i ∷ []))
           (rw (← append_assoc, ← untouched r four s i e since)
@@ -137,7 +134,7 @@ module _ (r : Record) (four : length r.places ≡ 4) (t : Total) (n : Reliable) 
       in_turn_by true p = delivered_more p
       in_turn_by false p = c
 
-  in_turn_more : (s : Released) (i : ℕ) → next_held s.after.reliable 0 s.after.places ≡ At i → Since r s × SoFar s
+  in_turn_more : (s : Released) (i : ℕ) → next_held s.after.reliable s.after.places ≡ Some i → Since r s × SoFar s
       → Since r (release_at s i) × SoFar (release_at s i)
   in_turn_more s i e h = (since_more r four s i e h.0, rw (release_is s i) (in_turn_by s i e h.0 h.1 (passing s i) refl))
 
@@ -160,30 +157,15 @@ acknowledged_numbers r w =
     (refl, refl)
     (refl, refl)
 
-gapped_numbers : (r : Record) (o : Reliable) → Numbers r (gapped r o).after
-unfolding gapped
-gapped_numbers r o =
-    either (λ (g : Gapped). Numbers r g.after) (closed r) (record { after = with_gap r gap.Quiet; lost = false }) _
-    (refl, refl)
-    (either (λ (g : Gapped). Numbers r g.after)
-    (lost r o)
-    (record { after = freed r; lost = true })
-    (record { after = with_gap r (begun r.gap (standoff_of r)); lost = false })
-    (refl, refl)
-    (refl, refl))
-
 settled_numbers : (r : Record) (w : Arrived) → Numbers r (settled r w).after
-unfolding settled
+unfolding settled gapped
 settled_numbers r w =
-    let g = gapped r w.oldest in
-    let stand = gapped_numbers r w.oldest in
-    let on = acknowledged_numbers g.after w in
-    either (λ (s : Settled). Numbers r s.after)
-    g.lost
-    (record { after = g.after; reply = reply.Leaving lost_sequence r.reliable })
-    (acknowledged g.after w)
-    stand
-    (on.0 ∙ stand.0, on.1 ∙ stand.1)
+    either Stand (closed r) (Some (with_gap r gap.Quiet)) _
+    (acknowledged_numbers _ w)
+    (either Stand (lost r w.oldest) None (Some (with_gap r (begun r.gap (standoff_of r)))) (refl, refl) (acknowledged_numbers _ w))
+  where
+    Stand : Option Record → Type 0
+    Stand g = Numbers r (settled_by g r w).after
 
 -- ---- the whole step
 
@@ -197,11 +179,11 @@ as_many_places r w =
     refl
     (by (place_for w r.places))
   where
-    by : (f : Search) → length (put_in r w f).after.places ≡ length r.places
-    by (At i) = length-set r.places i (held_as w)
-    by Nowhere = refl
+    by : (f : Option ℕ) → length (put_in r w f).after.places ≡ length r.places
+    by (Some i) = length-set r.places i (held_as w)
+    by None = refl
 
-pub in_turn : (r : Record) (w : Arrived) → length r.places ≡ 4 → judged r w.reliably w.total w.reliable ≡ Fresh
+pub in_turn : (r : Record) (w : Arrived) → length r.places ≡ 4 → judged r w.reliably w.total w.reliable ≡ Ok tt
     → InTurnTo r.total r.reliable (deliveries r w) (taken r w).after.total (taken r w).after.reliable
 unfolding taken heard
 in_turn r w four fresh =

@@ -1,9 +1,5 @@
 -- What the proofs of `wrapper` share, and the laws of a step.
-pub mod Judging
-pub mod Holding
 pub mod Releasing
-pub mod Settling
-pub mod Stepping
 pub mod ReleaseIsDone
 pub mod InTurn
 pub mod Stays

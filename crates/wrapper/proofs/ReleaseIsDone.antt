@@ -10,28 +10,27 @@ use lib.Dec.{eqb}
 use lib.ListN.{length, get_or, set, length-set}
 use lib.Seq.{get_or-set_same, get_or-set_other}
 use borrow.Author.Tests.{eqb-true, eqb-false}
+use Rattle.std.specs.Prelude.{Option, Some, None}
 use Rattle.counter.specs.declared.Reliable.{Reliable}
 use Rattle.record.specs.Places.{no_place, place_at}
 use Rattle.record.specs.With.{free_place}
 use Rattle.record.specs.declared.Place.{Place}
 use Rattle.record.specs.declared.Record.{Record}
-use Rattle.record.proofs.Lowest.{lowest_is}
+use Rattle.record.proofs.Searching.{none_found}
+use Rattle.std.proofs.lemmas.List.Quantifiers.{position-Some}
 use Rattle.wrapper.specs.Release.{is_next, next_held, release_by, release_at, release_from, released}
 use Rattle.wrapper.specs.Since.{used_in, Freed, Since}
-use Rattle.wrapper.specs.declared.Search.{Search}
-use Rattle.wrapper.specs.declared.Search.TheVariants.{At, Nowhere}
 use Rattle.wrapper.specs.declared.Released.{Released}
-use Rattle.wrapper.proofs.Holding.{tells}
 use Rattle.wrapper.proofs.Releasing.{held_at, passing, release_is, along, no_more, one_more_lem}
 
 -- ---- the place that is found
 
 -- it is a used one of the places, and holds a wrapper that is next
-pub found_next : (s : Released) (i : ℕ) → next_held s.after.reliable 0 s.after.places ≡ At i
+pub found_next : (s : Released) (i : ℕ) → next_held s.after.reliable s.after.places ≡ Some i
     → (i < length s.after.places) × (is_next s.after.reliable (held_at s i) ≡ true)
 unfolding next_held
 found_next s i e =
-    let f = lowest_is (is_next s.after.reliable) At Nowhere tells no_place s.after.places i e in
+    let f = position-Some (is_next s.after.reliable) s.after.places i no_place e in
     (f.0, f.1)
 
 pub next_used : (r : Reliable) (p : Place) → is_next r p ≡ true → p.used ≡ true
@@ -59,18 +58,22 @@ used_set (p ∷ ps) (suc i) q h u v = by p.used (used_set ps i q (omega arith) u
     by false e = e
 
 -- without a used place none is next
-none_used : (r : Reliable) (k : ℕ) (ps : List Place) → used_in ps ≡ 0 → next_held r k ps ≡ Nowhere
+none_used : (r : Reliable) (ps : List Place) → used_in ps ≡ 0 → next_held r ps ≡ None
 unfolding next_held
-none_used r k [] e = refl
-none_used r k (p ∷ ps) e = by p.used refl (none_used r (k + 1) ps)
+none_used r ps e = none_found (is_next r) ps (unused ps e)
   where
-    by : (b : Bool) → p.used ≡ b → (used_in ps ≡ 0 → next_held r (k + 1) ps ≡ Nowhere) → next_held r k (p ∷ ps) ≡ Nowhere
-    by true u later =
-        let z : suc (used_in ps) ≡ 0 = rw u at e in
-        absurd (omega arith)
-    by false u later =
-        let z : used_in ps ≡ 0 = rw u at e in
-        rw u (later z)
+    unused : (ps : List Place) → used_in ps ≡ 0 → (k : ℕ) (d : Place) → k < length ps → is_next r (get_or ps k d) ≡ false
+    unused [] e k d h = absurd (omega arith)
+    unused (p ∷ ps) e k d h = by p.used refl (λ z. unused ps z) k h
+      where
+        by : (b : Bool) → p.used ≡ b
+            → (used_in ps ≡ 0 → (k : ℕ) (d : Place) → k < length ps → is_next r (get_or ps k d) ≡ false)
+            → (k : ℕ) → k < length (p ∷ ps) → is_next r (get_or (p ∷ ps) k d) ≡ false
+        by true u later k h =
+            let z : suc (used_in ps) ≡ 0 = rw u at e in
+            absurd (omega arith)
+        by false u later zero h = rw u
+        by false u later (suc k) h = later (rw u at e) k d (omega arith)
 
 -- ---- one release
 
@@ -81,7 +84,7 @@ by_places false s i p = refl
 pub release_places : (s : Released) (i : ℕ) → (release_at s i).after.places ≡ set s.after.places i (free_place (held_at s i))
 release_places s i = rw (release_is s i) (by_places (passing s i) s i (held_at s i))
 
-one_fewer : (s : Released) (i : ℕ) → next_held s.after.reliable 0 s.after.places ≡ At i
+one_fewer : (s : Released) (i : ℕ) → next_held s.after.reliable s.after.places ≡ Some i
     → suc (used_in (release_at s i).after.places) ≡ used_in s.after.places
 one_fewer s i e =
     let f = found_next s i e in
@@ -91,21 +94,21 @@ one_fewer s i e =
 -- ---- none is next afterwards
 
 none_left : (n : ℕ) (s : Released) → used_in s.after.places ≤ n
-    → next_held (release_from n s).after.reliable 0 (release_from n s).after.places ≡ Nowhere
+    → next_held (release_from n s).after.reliable (release_from n s).after.places ≡ None
 unfolding release_from
-none_left zero s h = none_used s.after.reliable 0 s.after.places (omega arith)
+none_left zero s h = none_used s.after.reliable s.after.places (omega arith)
 none_left (suc n) s h =
-    by (next_held s.after.reliable 0 s.after.places) refl (λ i e. none_left n (release_at s i) (omega (arith, one_fewer s i e)))
+    by (next_held s.after.reliable s.after.places) refl (λ i e. none_left n (release_at s i) (omega (arith, one_fewer s i e)))
   where
-    by : (f : Search) → next_held s.after.reliable 0 s.after.places ≡ f
-        → ((i : ℕ) → next_held s.after.reliable 0 s.after.places ≡ At i
-        → next_held (release_from n (release_at s i)).after.reliable 0 (release_from n (release_at s i)).after.places ≡ Nowhere)
-        → next_held (release_from (suc n) s).after.reliable 0 (release_from (suc n) s).after.places ≡ Nowhere
-    by (At i) e go = rw (one_more_lem n s i e) (go i e)
-    by Nowhere e go = rw (no_more (suc n) s e) e
+    by : (f : Option ℕ) → next_held s.after.reliable s.after.places ≡ f
+        → ((i : ℕ) → next_held s.after.reliable s.after.places ≡ Some i
+        → next_held (release_from n (release_at s i)).after.reliable (release_from n (release_at s i)).after.places ≡ None)
+        → next_held (release_from (suc n) s).after.reliable (release_from (suc n) s).after.places ≡ None
+    by (Some i) e go = rw (one_more_lem n s i e) (go i e)
+    by None e go = rw (no_more (suc n) s e) e
 
 pub release_is_done : (r : Record) → length r.places ≡ 4
-    → next_held (released r).after.reliable 0 (released r).after.places ≡ Nowhere
+    → next_held (released r).after.reliable (released r).after.places ≡ None
 unfolding released
 release_is_done r l = none_left 4 _ (omega (arith, used_within r.places))
 
@@ -131,7 +134,7 @@ module _ (r : Record) where
       (four : length r.places ≡ 4)
       (s : Released)
       (i : ℕ)
-      (e : next_held s.after.reliable 0 s.after.places ≡ At i)
+      (e : next_held s.after.reliable s.after.places ≡ Some i)
       (h : Since r s)
     where
       is_used : (held_at s i).used ≡ true

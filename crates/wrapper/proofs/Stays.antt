@@ -1,5 +1,6 @@
 -- A wrapper's step leaves a record well formed: steps 2 to 4 keep `Going`, which is all of it but that the phase fits R and K, and step 5
 -- makes the phase fit again. Assumes nothing.
+use Prim.{Unit}
 use Prim.Native.Nat.{ℕ, zero, suc, ◌+◌, ◌*◌, ◌<◌, ◌≤◌}
 use mathlib.Core.Bool.{Bool, true, false, cond, not, ◌&&◌, ◌||◌, and-eq-true_iff, false≢true}
 use mathlib.Core.List.{List, [], ◌∷◌}
@@ -11,12 +12,12 @@ use lib.IntN.{ℤ, pos}
 use lib.ListN.{length, set, length-set, get_or-eq_default}
 use lib.Signed.{lt_z, le_z}
 use borrow.Author.Tests.{ltb-true, ltb-false, eqb-true, eqb-false, eq-eqb}
+use Rattle.std.specs.Prelude.{Option, Some, None, Result, Ok, Err}
 use Rattle.counter.specs.Distance.{turn, ahead, distance}
 use Rattle.counter.specs.declared.Reliable.{Reliable}
 use Rattle.counter.proofs.Distances.{ahead_zero, ahead_between, ahead_is, distance_ahead, at_least, test_nearer}
 use Rattle.record.specs.Legal.{legal_names, legal_parameters}
 use Rattle.record.specs.Places.{no_place, place_at}
-use Rattle.record.specs.Reasons.{lost_sequence}
 use Rattle.record.specs.WellFormed.{most_contents, closed, well_formed}
 use Rattle.record.specs.With.{freed, free_place, with_numbers, with_places, with_gap, with_acked}
 use Rattle.record.specs.declared.Gap.{Gap}
@@ -25,29 +26,26 @@ use Rattle.record.specs.declared.Place.{Place}
 use Rattle.record.specs.declared.Terms.{Terms}
 use Rattle.record.specs.declared.Record.{Record}
 use Rattle.record.proofs.Choices.{each_case, never}
-use Rattle.record.proofs.Lowest.{lowest_nowhere}
+use Rattle.record.proofs.Searching.{none_passes}
 use Rattle.record.proofs.Profile.{some_retries}
 use Rattle.record.proofs.Stored.{Stored, used_stored}
 use Rattle.record.proofs.Formed.{Apart, Phase, Formed, formed, well_formed_lem, free_formed}
 use Rattle.gap.specs.Standoff.{standoff_of}
 use Rattle.gap.proofs.Stays.{standoff_most}
+use Rattle.refusal.specs.declared.Refusal.{Refusal}
+use Rattle.refusal.specs.declared.Refusal.TheVariants.{Old, Inconsistent}
 use Rattle.wrapper.specs.Judge.{consistent, judged_by, judged, farther, heard}
 use Rattle.wrapper.specs.Hold.{is, next_one, holds, lowest_free, place_for, held_as, put_in, placed}
 use Rattle.wrapper.specs.Release.{is_next, next_held, release_by, release_at, released}
-use Rattle.wrapper.specs.Settle.{lost, begun, gapped, asked, spared, acknowledged, settled}
+use Rattle.wrapper.specs.Settle.{lost, begun, gapped, asked, spared, acknowledged, settled_by, settled}
 use Rattle.wrapper.specs.Taken.{taken, stepped_by, stepped}
 use Rattle.wrapper.specs.declared.Arrived.{Arrived}
 use Rattle.wrapper.specs.declared.Fate.TheVariants as fate
-use Rattle.wrapper.specs.declared.Gapped.{Gapped}
-use Rattle.wrapper.specs.declared.Judged.{Judged}
-use Rattle.wrapper.specs.declared.Judged.TheVariants.{Old, Inconsistent, Fresh}
+use Rattle.wrapper.specs.declared.Plan.{Plan}
 use Rattle.wrapper.specs.declared.Placed.{Placed}
 use Rattle.wrapper.specs.declared.Released.{Released}
 use Rattle.wrapper.specs.declared.Reply.TheVariants as reply
-use Rattle.wrapper.specs.declared.Search.{Search}
-use Rattle.wrapper.specs.declared.Search.TheVariants.{At, Nowhere}
 use Rattle.wrapper.specs.declared.Settled.{Settled}
-use Rattle.wrapper.proofs.Holding.{tells}
 use Rattle.wrapper.proofs.InTurn.{is_number}
 use Rattle.wrapper.proofs.Releasing.{held_at, passing, release_is, along}
 use Rattle.wrapper.proofs.ReleaseIsDone.{found_next, release_is_done}
@@ -125,17 +123,17 @@ unfolding consistent
 consistent_least true d e c = ((and-eq-true_iff (le_z (pos 1) e) (le_z e d)).0 c).0
 consistent_least false d e c = ((and-eq-true_iff (le_z (pos 0) e) (lt_z e d)).0 c).0
 
-fresh_consistent : (s : Bool) (d e : ℤ) → judged_by s d e ≡ Fresh → consistent s d e ≡ true
+fresh_consistent : (s : Bool) (d e : ℤ) → judged_by s d e ≡ Ok tt → consistent s d e ≡ true
 unfolding judged_by
 fresh_consistent s d e j = by (le_z d (pos 0)) (consistent s d e) j
   where
-    by : (o c : Bool) → cond o Old (cond c Fresh Inconsistent) ≡ Fresh → c ≡ true
+    by : (o c : Bool) → cond o (Err Old) (cond c (Ok (tt {0})) (Err Inconsistent)) ≡ Ok (tt {0}) → c ≡ true
     by true c q = never (cc)
     by false true q = refl
     by false false q = never (cc)
 
 -- a fresh wrapper is less than half a turn ahead of R, and a reliable one is ahead
-pub fresh_ahead : (r : Record) (w : Arrived) → judged r w.reliably w.total w.reliable ≡ Fresh
+pub fresh_ahead : (r : Record) (w : Arrived) → judged r w.reliably w.total w.reliable ≡ Ok tt
     → (cond w.reliably 1 0 ≤ ahead r.reliable.0 w.reliable.0) × (ahead r.reliable.0 w.reliable.0 < 2147483648)
 unfolding judged
 fresh_ahead r w j =
@@ -217,11 +215,11 @@ not_held n (p ∷ ps) h (suc i) u e = not_held n ps (rest (p.used && eqb p.relia
     rest false b h = h
 
 -- a place is found only for a reliable wrapper whose number is not held
-place_found : (w : Arrived) (ps : List Place) (i : ℕ) → place_for w ps ≡ At i → (w.reliably ≡ true) × (holds w.reliable ps ≡ false)
+place_found : (w : Arrived) (ps : List Place) (i : ℕ) → place_for w ps ≡ Some i → (w.reliably ≡ true) × (holds w.reliable ps ≡ false)
 unfolding place_for
 place_found w ps i e = by w.reliably (holds w.reliable ps) e
   where
-    by : (s h : Bool) → cond s (cond h Nowhere (lowest_free 0 ps)) Nowhere ≡ At i → (s ≡ true) × (h ≡ false)
+    by : (s h : Bool) → cond s (cond h None (lowest_free ps)) None ≡ Some i → (s ≡ true) × (h ≡ false)
     by true true q = never (cc)
     by true false q = (refl, refl)
     by false h q = never (cc)
@@ -272,7 +270,7 @@ module _
     held_waits t = record { beyond = rw t at from; within = within; contents = fits; below = below }
 
     -- a newly held one is ahead of R, not past K, and held nowhere else
-    held_going : (i : ℕ) → place_for w r.places ≡ At i → Going 1 (with_places r (set r.places i (held_as w)))
+    held_going : (i : ℕ) → place_for w r.places ≡ Some i → Going 1 (with_places r (set r.places i (held_as w)))
     held_going i e =
         let f = place_found w r.places i e in
         let other = not_held w.reliable r.places f.1 in
@@ -316,13 +314,13 @@ module _
         next_going
         (λ e. put (place_for w r.places) refl)
       where
-        put : (f : Search) → place_for w r.places ≡ f → Going 1 (put_in r w f).after
-        put (At i) e = held_going i e
-        put Nowhere e = sooner g
+        put : (f : Option ℕ) → place_for w r.places ≡ f → Going 1 (put_in r w f).after
+        put (Some i) e = held_going i e
+        put None e = sooner g
 
 -- ---- step 4
 
-module _ (s : Released) (i : ℕ) (e : next_held s.after.reliable 0 s.after.places ≡ At i) (g : Going 1 s.after) where
+module _ (s : Released) (i : ℕ) (e : next_held s.after.reliable s.after.places ≡ Some i) (g : Going 1 s.after) where
   abbrev p : Place
   p = held_at s i
 
@@ -405,12 +403,12 @@ module _ (s : Released) (i : ℕ) (e : next_held s.after.reliable 0 s.after.plac
       by false = thrown_going
 
 -- where none is found, none is next: past the places stands a free one
-none_next : (r : Reliable) (ps : List Place) → next_held r 0 ps ≡ Nowhere → (i : ℕ) → is_next r (place_at ps i) ≡ false
+none_next : (r : Reliable) (ps : List Place) → next_held r ps ≡ None → (i : ℕ) → is_next r (place_at ps i) ≡ false
 unfolding next_held
 none_next r ps e i = by (ltb i (length ps)) refl
   where
     by : (b : Bool) → ltb i (length ps) ≡ b → is_next r (place_at ps i) ≡ false
-    by true l = lowest_nowhere (is_next r) At Nowhere tells no_place ps 0 e i (ltb-true i (length ps) l)
+    by true l = none_passes (is_next r) ps e i no_place (ltb-true i (length ps) l)
     by false l = rw (get_or-eq_default ps no_place (ltb-false i (length ps) l))
 
 -- all releases together keep them so
@@ -457,22 +455,6 @@ going_formed r g h p =
       idle = h.stands.idle;
     })
 
--- step 5 makes the phase fit, or frees the record
-pub gapped_formed : (r : Record) (oldest : Reliable) → Going 2 r → well_formed (gapped r oldest).after ≡ true
-unfolding gapped closed
-gapped_formed r oldest h =
-    each_case (λ (g : Gapped). well_formed g.after ≡ true) (closed r) (record { after = with_gap r Quiet; lost = false }) _
-    (λ e. going_formed r Quiet h (eqb-true r.known.0 r.reliable.0 e))
-    (λ e.
-    each_case (λ (g : Gapped). well_formed g.after ≡ true)
-    (lost r oldest)
-    (record { after = freed r; lost = true })
-    (record { after = with_gap r (begun r.gap (standoff_of r)); lost = false })
-    (λ l. free_formed (freed r) refl)
-    (λ l.
-    going_formed r (begun r.gap (standoff_of r)) h
-    (h.stands.phase r.reliable.0 r.known.0 (standoff_of r) (eqb-false r.known.0 r.reliable.0 e) (standoff_most r))))
-
 -- nothing is asked of A
 acked_formed : (r : Record) (a : Reliable) → well_formed (with_acked r a) ≡ well_formed r
 unfolding well_formed closed
@@ -489,18 +471,22 @@ acknowledged_formed r w h =
     (λ e. acked_formed r r.reliable ∙ h)
     (λ e. h)
 
--- steps 5 and 6 leave a record well formed
+-- steps 5 and 6 leave a record well formed: step 5 makes the phase fit, or the record is freed
 pub settled_formed : (r : Record) (w : Arrived) → Going 2 r → well_formed (settled r w).after ≡ true
-unfolding settled
+unfolding settled gapped closed
 settled_formed r w h =
-    let g = gapped r w.oldest in
-    let stays = gapped_formed r w.oldest h in
-    each_case (λ (s : Settled). well_formed s.after ≡ true)
-    g.lost
-    (record { after = g.after; reply = reply.Leaving lost_sequence r.reliable })
-    (acknowledged g.after w)
-    (λ e. stays)
-    (λ e. acknowledged_formed g.after w stays)
+    each_case Formed_by (closed r) (Some (with_gap r Quiet)) _
+    (λ e. acknowledged_formed _ w (going_formed r Quiet h (eqb-true r.known.0 r.reliable.0 e)))
+    (λ e.
+    each_case Formed_by (lost r w.oldest) None (Some (with_gap r (begun r.gap (standoff_of r))))
+    (λ l. free_formed (freed r) refl)
+    (λ l.
+    acknowledged_formed _ w
+    (going_formed r (begun r.gap (standoff_of r)) h
+    (h.stands.phase r.reliable.0 r.known.0 (standoff_of r) (eqb-false r.known.0 r.reliable.0 e) (standoff_most r)))))
+  where
+    Formed_by : Option Record → Type 0
+    Formed_by g = well_formed (settled_by g r w).after ≡ true
 
 -- ---- the whole step
 
@@ -516,7 +502,7 @@ module _
     (fits : w.len ≤ most_contents)
   where
     -- steps 2 to 6 leave a record well formed
-    pub taken_formed : judged r w.reliably w.total w.reliable ≡ Fresh → well_formed (taken r w).after ≡ true
+    pub taken_formed : judged r w.reliably w.total w.reliable ≡ Ok tt → well_formed (taken r w).after ≡ true
     unfolding taken heard
     taken_formed fresh =
         let f = formed r formed-before used in
@@ -525,12 +511,11 @@ module _
         let third = placed_going (heard r w.reliable) w second arrived-below fits n.0 (heard_within r w.reliable f n.1) in
         settled_formed _ w (released_going _ third)
 
-    -- and so does the whole step
-    pub wrapper_stays : well_formed (stepped r w).plan.after ≡ true
+    -- and so does the whole step, if it is not refused
+    pub wrapper_stays : (p : Plan) → stepped r w ≡ Ok p → well_formed p.after ≡ true
     unfolding stepped
-    wrapper_stays = by (judged r w.reliably w.total w.reliable) refl
+    wrapper_stays p e = by (judged r w.reliably w.total w.reliable) refl e
       where
-        by : (j : Judged) → judged r w.reliably w.total w.reliable ≡ j → well_formed (stepped_by j r w).plan.after ≡ true
-        by Old e = formed-before
-        by Inconsistent e = formed-before
-        by Fresh e = taken_formed e
+        by : (j : Result (Unit {0}) Refusal) → judged r w.reliably w.total w.reliable ≡ j → stepped_by j r w ≡ Ok p → well_formed p.after ≡ true
+        by (Err x) e q = never (cc)
+        by (Ok x) e q = let same : taken r w ≡ p = cc in rw (← same) (taken_formed e)

@@ -1,14 +1,12 @@
 -- Step 3 of a wrapper (01, "One channel"): delivered, held in a place, or dropped.
-use Rattle.std.specs.Prelude.{ℕ, Bool, true, false, cond, not, ◌&&◌, ◌||◌, List, [], ◌∷◌, set, eqb, ℤ, pos, negsuc}
+use Rattle.std.specs.Prelude.{ℕ, Bool, false, true, cond, not, ◌&&◌, List, set, eqb, position, Option, Some, None, ℤ, pos, negsuc}
+use Rattle.std.specs.List.{list_any}
 use Rattle.counter.specs.Distance.{distance}
 use Rattle.counter.specs.declared.Reliable.{Reliable}
-use Rattle.record.specs.Lowest.{lowest}
 use Rattle.record.specs.With.{with_numbers, with_places}
 use Rattle.record.specs.declared.Place.{Place}
 use Rattle.record.specs.declared.Record.{Record}
 use Rattle.wrapper.specs.declared.Arrived.{Arrived}
-use Rattle.wrapper.specs.declared.Search.{Search}
-use Rattle.wrapper.specs.declared.Search.TheVariants as search
 use Rattle.wrapper.specs.declared.Fate.TheVariants as fate
 use Rattle.wrapper.specs.declared.Placed.{Placed}
 
@@ -21,28 +19,30 @@ is n (negsuc m) = false
 unfoldable pub next_one : Record → Arrived → Bool
 next_one r w = is (cond w.reliably 1 0) (distance r.reliable.0 w.reliable.0)
 
--- a held one has this reliable number
+-- a held one with this reliable number
+abbrev pub is_numbered : Reliable → Place → Bool
+is_numbered n p = p.used && eqb p.reliable.0 n.0
+
 unfoldable pub holds : Reliable → List Place → Bool
-holds n [] = false
-holds n (p ∷ ps) = (p.used && eqb p.reliable.0 n.0) || holds n ps
+holds n ps = list_any (is_numbered n) ps
 
 abbrev pub is_free : Place → Bool
 is_free p = not p.used
 
--- the lowest free one of places that are counted from i on
-unfoldable pub lowest_free : ℕ → List Place → Search
-lowest_free i ps = lowest is_free search.At search.Nowhere i ps
+-- the lowest free place
+unfoldable pub lowest_free : List Place → Option ℕ
+lowest_free ps = position is_free ps
 
 -- where a wrapper is held: nowhere if it is unreliable, if a held one has its reliable number, or if no place is free
-unfoldable pub place_for : Arrived → List Place → Search
-place_for w ps = cond w.reliably (cond (holds w.reliable ps) search.Nowhere (lowest_free 0 ps)) search.Nowhere
+unfoldable pub place_for : Arrived → List Place → Option ℕ
+place_for w ps = cond w.reliably (cond (holds w.reliable ps) None (lowest_free ps)) None
 
 abbrev pub held_as : Arrived → Place
 held_as w = record { used = true; total = w.total; reliable = w.reliable; len = w.len }
 
-abbrev pub put_in : Record → Arrived → Search → Placed
-put_in r w (search.At i) = record { after = with_places r (set r.places i (held_as w)); fate = fate.Held i }
-put_in r w search.Nowhere = record { after = r; fate = fate.Dropped }
+abbrev pub put_in : Record → Arrived → Option ℕ → Placed
+put_in r w (Some i) = record { after = with_places r (set r.places i (held_as w)); fate = fate.Held i }
+put_in r w None = record { after = r; fate = fate.Dropped }
 
 -- step 3: the next one is delivered, and T and R become its numbers; any other is held or dropped
 unfoldable pub placed : Record → Arrived → Placed

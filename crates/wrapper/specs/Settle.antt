@@ -1,10 +1,10 @@
 -- Steps 5 and 6 of a wrapper (01, "One channel"): quiet, lost or standoff, and the ACK.
-use Rattle.std.specs.Prelude.{ℕ, Bool, true, false, cond, not, ◌&&◌, leb, eqb, pos}
+use Rattle.std.specs.Prelude.{ℕ, Bool, Option, Some, None, cond, not, ◌&&◌, leb, eqb, pos}
 use Rattle.std.specs.Int.Signed.{le_z}
 use Rattle.counter.specs.Distance.{distance}
 use Rattle.counter.specs.Steps.{before}
 use Rattle.counter.specs.declared.Reliable.{Reliable}
-use Rattle.record.specs.Reasons.{lost_sequence}
+use Rattle.record.specs.declared.reasons.Reason.TheVariants.{LostSequence}
 use Rattle.record.specs.WellFormed.{closed}
 use Rattle.record.specs.With.{freed, with_gap, with_acked}
 use Rattle.record.specs.declared.Gap.{Gap}
@@ -13,7 +13,6 @@ use Rattle.record.specs.declared.Record.{Record}
 use Rattle.gap.specs.Standoff.{standoff_of}
 use Rattle.wrapper.specs.declared.Arrived.{Arrived}
 use Rattle.wrapper.specs.declared.Reply.TheVariants as reply
-use Rattle.wrapper.specs.declared.Gapped.{Gapped}
 use Rattle.wrapper.specs.declared.Settled.{Settled}
 
 -- what is missing can no longer be had: oldest available is two or more ahead of R
@@ -26,12 +25,11 @@ begun gap.Quiet time = gap.Standoff time 0
 begun (gap.Standoff left count) time = gap.Standoff left count
 begun (gap.Waiting left count) time = gap.Waiting left count
 
--- step 5: without a gap the channel is quiet; in a gap it is left if that is lost, and else waits for what is missing
-unfoldable pub gapped : Record → Reliable → Gapped
+-- step 5: without a gap the channel is quiet; in a gap it is left, and no record stays, if that is lost, and else it waits for what is missing
+unfoldable pub gapped : Record → Reliable → Option Record
 gapped r oldest =
-    cond (closed r) (record { after = with_gap r gap.Quiet; lost = false })
-    (cond (lost r oldest) (record { after = freed r; lost = true })
-    (record { after = with_gap r (begun r.gap (standoff_of r)); lost = false }))
+    cond (closed r) (Some (with_gap r gap.Quiet))
+    (cond (lost r oldest) None (Some (with_gap r (begun r.gap (standoff_of r)))))
 
 -- the range first to last asks this member
 unfoldable pub asked : Record → Arrived → Bool
@@ -51,9 +49,9 @@ acknowledged r w =
     (record { after = r; reply = reply.Nothing })
 
 -- steps 5 and 6: a channel that is left sends Leaving, and no ACK
-abbrev pub settled_by : Reliable → Gapped → Arrived → Settled
-settled_by r g w =
-    cond g.lost (record { after = g.after; reply = reply.Leaving lost_sequence r }) (acknowledged g.after w)
+abbrev pub settled_by : Option Record → Record → Arrived → Settled
+settled_by (Some after) r w = acknowledged after w
+settled_by None r w = record { after = freed r; reply = reply.Leaving LostSequence r.reliable }
 
 unfoldable pub settled : Record → Arrived → Settled
-settled r w = settled_by r.reliable (gapped r w.oldest) w
+settled r w = settled_by (gapped r w.oldest) r w

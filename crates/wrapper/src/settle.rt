@@ -1,18 +1,18 @@
 // Steps 5 and 6 of a wrapper (specs/Settle): quiet, lost or standoff, and the ACK.
-ghost use Rattle.std.specs.Prelude.{◌≡◌, ◌<◌};
+ghost use Rattle.std.specs.Prelude.{◌≡◌};
 ghost use Rattle.wrapper.specs.Settle.{lost, begun, gapped, asked, spared, acknowledged, settled};
 
-use crate::{Arrived, Gapped, Reply, Settled};
-use counter::{Reliable, reliable_distance, threshold_number};
+use crate::{Arrived, Reply, Settled};
+use counter::{Counter, Reliable};
 use gap::standoff_of;
-use record::{Gap, Record, free_record, is_closed, with_gap};
+use record::{Gap, Reason, Record};
 
 // Whether what is missing can no longer be had.
+#[tactic(auto, unfolding(crate::specs::Settle::lost))]
 fn is_lost(r: Record, oldest: Reliable) -> bool
     ensures { result ≡ lost r oldest }
 {
-    let reliable = r.reliable;
-    2 <= reliable_distance(reliable, oldest)
+    2 <= r.reliable.distance_to(oldest)
 }
 
 // The standoff of a quiet channel; a phase that runs goes on.
@@ -24,97 +24,70 @@ fn begin(gap: Gap, time: u32) -> Gap
             left: time,
             count: 0,
         },
-        Gap::Standoff { left, count } => Gap::Standoff { left, count },
-        Gap::Waiting { left, count } => Gap::Waiting { left, count },
+        running => running,
     }
 }
 
-// Step 5.
-fn gap_step(r: Record, oldest: Reliable) -> Gapped
-    requires { 0 < r.terms.modulus }
+// Step 5: the record with its gap, or none if what is missing is lost.
+#[tactic(auto, unfolding(crate::specs::Settle::gapped))]
+fn gap_step(r: Record, oldest: Reliable) -> Option<Record>
     ensures { result ≡ gapped r oldest }
 {
-    if is_closed(r) {
-        return Gapped {
-            after: with_gap(r, Gap::Quiet),
-            lost: false,
-        };
+    if r.is_closed() {
+        return Some(r.with_gap(Gap::Quiet));
     }
     if is_lost(r, oldest) {
-        return Gapped {
-            after: free_record(r),
-            lost: true,
-        };
+        return None;
     }
-    let gap = r.gap;
-    Gapped {
-        after: with_gap(r, begin(gap, standoff_of(r))),
-        lost: false,
-    }
+    Some(r.with_gap(begin(r.gap, standoff_of(r))))
 }
 
 // Whether the wrapper asks this member for an ACK.
+#[tactic(auto, unfolding(crate::specs::Settle::asked))]
 fn is_asked(r: Record, w: Arrived) -> bool
     ensures { result ≡ asked r w }
 {
-    let mid = r.terms.mid;
-    if mid < w.first {
-        return false;
-    }
-    mid <= w.last
+    w.first <= r.terms.mid && r.terms.mid <= w.last
 }
 
 // Whether the threshold spares the ACK.
+#[tactic(auto, unfolding(crate::specs::Settle::spared))]
 fn is_spared(r: Record, w: Arrived) -> bool
     ensures { result ≡ spared r w }
 {
-    if w.threshold == 0 {
-        return false;
-    }
-    let n = w.reliable;
-    let acked = r.acked;
-    1 <= reliable_distance(threshold_number(n, w.threshold), acked)
+    w.threshold != 0 && 1 <= w.reliable.before(w.threshold).distance_to(r.acked)
 }
 
 // Step 6.
+#[tactic(auto, unfolding(crate::specs::Settle::acknowledged))]
 fn acknowledge(r: Record, w: Arrived) -> Settled
     ensures { result ≡ acknowledged r w }
 {
-    let reliable = r.reliable;
-    if !is_asked(r, w) {
+    if !is_asked(r, w) || is_spared(r, w) {
         return Settled {
             after: r,
             reply: Reply::Nothing,
         };
     }
-    if is_spared(r, w) {
-        return Settled {
-            after: r,
-            reply: Reply::Nothing,
-        };
-    }
-    let mut s = r;
-    s.acked = reliable;
     Settled {
-        after: s,
-        reply: Reply::Ack(reliable),
+        after: Record {
+            acked: r.reliable,
+            ..r
+        },
+        reply: Reply::Ack(r.reliable),
     }
 }
 
-// Steps 5 and 6.
+// Steps 5 and 6: a channel that is left sends Leaving, and no ACK.
+#[tactic(auto, unfolding(crate::specs::Settle::settled))]
 pub fn settle(r: Record, w: Arrived) -> Settled
-    requires { 0 < r.terms.modulus }
     ensures { result ≡ settled r w }
 {
-    let reliable = r.reliable;
-    let oldest = w.oldest;
-    let g = gap_step(r, oldest);
-    let after = g.after;
-    if g.lost {
-        return Settled {
-            after,
-            reply: Reply::Leaving(record::LOST_SEQUENCE, reliable),
-        };
+    match gap_step(r, w.oldest) {
+        Some(after) => acknowledge(after, w),
+        None => Settled {
+            after: r.freed(),
+            reply: Reply::Leaving(Reason::LostSequence, r.reliable),
+        },
     }
-    acknowledge(after, w)
 }

@@ -1,10 +1,7 @@
--- Each arm answers the distance that belongs to what `ahead_of` gave.
-use Rattle.std.proofs.Common.{arith}
-use Rattle.counter.proofs.Machine.{read_ahead, read_behind}
+-- The bits of what `ahead_of` counted, read as a signed number, are the distance.
+use Rattle.std.proofs.Common.{Fits}
+use Rattle.counter.proofs.Machine.{read_signed}
 use Rattle.counter.proofs.signed_distance.Goals as goal
 
-pub returns-then-n-lt2147483648 : goal.returns-then-n-lt2147483648
-returns-then-n-lt2147483648 c = read_ahead c.args.old c.args.new c.ahead_of-n.result (omega arith) (omega arith)
-
-pub returns-else-n-lt2147483648 : goal.returns-else-n-lt2147483648
-returns-else-n-lt2147483648 c = read_behind c.args.old c.args.new c.ahead_of-n.result (omega arith) (omega arith)
+pub returns : goal.returns
+returns c = read_signed c.args.old c.args.new c.ahead_of.result c.cast_signed.result (record { fits = c.ahead_of.type_inv }) c.cast_signed.ensures c.ahead_of.ensures

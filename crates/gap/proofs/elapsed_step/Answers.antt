@@ -1,19 +1,15 @@
--- `elapsed_step` meets its contract: a record that does not expire is well formed when its phase is looked at. Assumes nothing.
-use Rattle.gap.proofs.Leaves.{elapses, may_idle}
-use borrow.Author.Rules.{rules}
+-- A well-formed record was idle for less than its expiry, and a record that does not expire is well formed when its phase is looked at.
+use Rattle.std.proofs.Common.{◌≡◌, ◌+◌, true, arith}
+use Rattle.std.proofs.lemmas.Bool.{not-false}
+use Rattle.record.proofs.Formed.{formed}
+use Rattle.gap.proofs.Stays.{idle_kept}
 use Rattle.gap.proofs.elapsed_step.Goals as goal
 
-pub returns-then-not-r : goal.returns-then-not-r
-returns-then-not-r c = search elapses
-
-pub idle_more-s-requires : goal.idle_more-s-requires
-idle_more-s-requires c = (may_idle c.args.r c.if-not-r.false c.requires.0 (search rules), c.requires.1)
-
-pub returns-then-expiry-s : goal.returns-then-expiry-s
-returns-then-expiry-s c = search elapses
+pub overflow_add-later : goal.overflow_add-later
+overflow_add-later c =
+    let used : c.args.r.used ≡ true = not-false _ c.if-not-r.false in
+    record { fits = omega (arith, (formed c.args.r c.requires.0 used).idle) }
 
 pub phase_step-requires : goal.phase_step-requires
-phase_step-requires c = search (elapses, c.requires)
-
-pub returns : goal.returns
-returns c = search elapses
+phase_step-requires c =
+    (not-false _ c.if-not-r.false, idle_kept c.args.r (c.args.r.idle + c.args.ms) c.requires.0 c.if-r-later.false)

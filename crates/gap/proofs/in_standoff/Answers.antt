@@ -1,14 +1,7 @@
--- `in_standoff` meets its contract: with no time left it sends the NAK of `in_standoff`. Assumes nothing.
-use native.Mathlib.Omega.{arith}
+-- The number of NAKs, and one more, fits its octet.
+use Rattle.std.proofs.Common.{arith}
 use Rattle.record.proofs.Profile.{retries_fit}
-use Rattle.gap.proofs.Leaves.{two_phases}
 use Rattle.gap.proofs.in_standoff.Goals as goal
 
-pub overflow_add-gap : goal.overflow_add-gap
-overflow_add-gap c = omega (arith, retries_fit)
-
-pub returns-then-left-eq0 : goal.returns-then-left-eq0
-returns-then-left-eq0 c = search two_phases
-
-pub returns : goal.returns
-returns c = search two_phases
+pub overflow_add-count : goal.overflow_add-count
+overflow_add-count c = omega (arith, retries_fit)

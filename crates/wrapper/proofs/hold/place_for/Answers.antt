@@ -1,12 +1,10 @@
--- `place_for` meets its contract: each answer is a leaf of where a wrapper is held. Assumes nothing.
-use Rattle.wrapper.proofs.Holding.{tells, placings}
+-- `place_for` meets its contract: the search asks of each place whether it is free. Assumes nothing.
+use Rattle.std.proofs.Common.{rules}
+use Rattle.wrapper.specs.Hold.{place_for, lowest_free, is_free}
 use Rattle.wrapper.proofs.hold.place_for.Goals as goal
 
-pub returns-then-not-w : goal.returns-then-not-w
-returns-then-not-w c = (search placings, λ i e. absurd (tells.none i e))
-
-pub returns-then-is_held : goal.returns-then-is_held
-returns-then-is_held c = (search placings, λ i e. absurd (tells.none i e))
-
-pub returns : goal.returns
-returns c = (search placings, c.lowest_free.ensures.1)
+pub returns-clause-found : goal.returns-clause-found
+unfolding place_for lowest_free
+returns-clause-found c =
+    let free = c.lowest.ensures.first is_free (λ x answer says. search (says, rules)) in
+    search (free, rules)

@@ -1,34 +1,26 @@
--- `release` meets its contract. The loop's invariant: the turns that are left make of the releases so far what step 4 answers, and no count
--- is past the turns that are spent. Assumes nothing.
-use native.Mathlib.Omega.{arith}
-use mathlib.Core.Path.{◌≡◌, refl, sym, ◌∙◌}
-use Rattle.wrapper.specs.declared.Search.TheVariants.{Nowhere}
+-- `release` meets its contract: the search asks of each place whether it is next, and a turn is a release or leaves nothing to release. Assumes nothing.
+use Rattle.std.proofs.Common.{rules, arith, sym, ◌∙◌}
+use Rattle.wrapper.specs.Release.{is_next, next_held}
 use Rattle.wrapper.proofs.Releasing.{no_more, release_counts, turn_spent, turns_spent}
-use Rattle.wrapper.specs.Release.{released}
-use borrow.Author.Rules.{rules}
 use Rattle.wrapper.proofs.release.release.Goals as goal
 
-pub loop-turns-init : goal.loop-turns-init
-unfolding released
-loop-turns-init c = (search rules, search rules, search rules, refl)
+pub loop-preserved : goal.loop-preserved
+unfolding next_held
+loop-preserved c =
+    let l = c.loop in
+    let next = c.lowest.ensures.first (is_next l.s.after.reliable) (λ x answer says. search (says, rules)) in
+    let counts = release_counts l.s _ _ c.release_at-s.ensures in (
+      omega (arith, counts, l.invariant.0),
+      omega (arith, counts, l.invariant.1),
+      turn_spent l.counter l.s _ _ _ (omega arith) (sym next ∙ c.in-Some.is) c.release_at-s.ensures l.invariant.2,
+    )
 
 pub returns-in_default : goal.returns-in_default
+unfolding next_held
 returns-in_default c =
-    let l = c.loop-turns in
-    let none : c.next_held.result ≡ Nowhere = search rules in
-    sym (no_more _ l.s (sym c.next_held.ensures.0 ∙ none)) ∙ l.invariant.3
+    let l = c.loop in
+    let next = c.lowest.ensures.first (is_next l.s.after.reliable) (λ x answer says. search (says, rules)) in
+    sym (no_more _ l.s (sym next ∙ c.in_default.is)) ∙ l.invariant.2
 
-pub release_at-s-requires : goal.release_at-s-requires
-release_at-s-requires c = (c.next_held.ensures.1 _ c.in-At.is, omega arith, omega arith)
-
-pub loop-turns-preserved : goal.loop-turns-preserved
-loop-turns-preserved c =
-    let l = c.loop-turns in
-    let counts = release_counts l.s _ _ c.release_at-s.ensures in
-    let found = sym c.next_held.ensures.0 ∙ c.in-At.is in
-    (omega arith, omega arith, omega arith, turn_spent l.turns l.s _ _ _ (omega arith) found c.release_at-s.ensures l.invariant.3)
-
-pub returns : goal.returns
-returns c =
-    let l = c.loop-turns in
-    turns_spent l.turns l.s _ (omega arith) l.invariant.3
+pub returns-after-loop : goal.returns-after-loop
+returns-after-loop c = turns_spent c.loop.counter c.loop.s _ (omega arith) c.loop.invariant.2
