@@ -1,4 +1,3 @@
 -- What the proofs of `joining` share, and the laws of joining.
-pub mod Arms
 pub mod Depends
 pub mod Made

@@ -6,6 +6,7 @@ use mathlib.Core.Path.{◌≡◌, refl, sym, ◌∙◌}
 use native.Mathlib.Omega.{arith}
 use lib.Dec.{eqb}
 use borrow.Author.Tests.{leb-true}
+use Rattle.std.specs.Prelude.{Option}
 use Rattle.message.specs.declared.Cid.{Cid}
 use Rattle.message.specs.declared.Parameters.{Parameters}
 use Rattle.message.specs.declared.Address.{Address}
@@ -42,7 +43,7 @@ holds_nothing [] i = refl
 holds_nothing (p ∷ ps) zero = refl
 holds_nothing (p ∷ ps) (suc i) = holds_nothing ps i
 
-pub made_well_formed : (old : Record) (owner : Cid) (j : Join) (x : Existing) (p : Parameters) (n : ℕ) (free : Bool)
+pub made_well_formed : (old : Record) (owner : Cid) (j : Join) (x : Option Existing) (p : Parameters) (n : ℕ) (free : Bool)
     → decided j x n free ≡ Make p → well_formed (new_record old owner j p n) ≡ true
 unfolding new_record legal
 made_well_formed old owner j x p n free e =

@@ -1,18 +1,17 @@
 -- What a Join is answered (01, "Joining"): j is the Join, e what the table has for its owner and channel, n the caller's reciprocal number,
 -- and `free` says whether a record is free.
-use Rattle.std.specs.Prelude.{ℕ, ◌%◌, ◌/◌, Bool, true, cond, ◌&&◌, map, eqb}
+use Rattle.std.specs.Prelude.{ℕ, ◌%◌, ◌/◌, Bool, true, cond, ◌&&◌, map, eqb, Option, Some, None}
 use Rattle.message.specs.declared.Cid.{Cid}
 use Rattle.message.specs.declared.Parameters.{Parameters}
 use Rattle.message.specs.declared.Address.{Address}
 use Rattle.message.specs.declared.Address.TheVariants as address
 use Rattle.message.specs.declared.Join.{Join}
 use Rattle.record.specs.Legal.{legal_names, legal_parameters}
-use Rattle.record.specs.Reasons.{illegal_parameters, low_resources, already_member, bad_address, no_reciprocal}
 use Rattle.record.specs.With.{free_place}
 use Rattle.record.specs.declared.Gap.TheVariants as gap
 use Rattle.record.specs.declared.Record.{Record}
+use Rattle.record.specs.declared.reasons.Reason.TheVariants as reason
 use Rattle.joining.specs.declared.Existing.{Existing}
-use Rattle.joining.specs.declared.Existing.TheVariants as existing
 use Rattle.joining.specs.declared.Decision.{Decision}
 use Rattle.joining.specs.declared.Decision.TheVariants as decision
 
@@ -31,28 +30,28 @@ legal j = legal_names j.channel j.mid && legal_address j.address
 
 -- what the table has for a Join if r is the record of its owner and channel
 abbrev pub existing_of : Record → Existing
-existing_of r = existing.Known r.terms.mid r.reliable r.terms.reciprocal
+existing_of r = record { mid = r.terms.mid; reliable = r.reliable; reciprocal = r.terms.reciprocal }
 
 -- the channel has no record yet: a reciprocal number is needed, and then a free record
 unfoldable pub decide_new : Parameters → ℕ → Bool → Decision
 decide_new p n free =
-    cond (eqb n 0) (decision.Refuse no_reciprocal)
-    (cond free (decision.Make p) (decision.Refuse low_resources))
+    cond (eqb n 0) (decision.Refuse reason.NoReciprocal)
+    (cond free (decision.Make p) (decision.Refuse reason.LowResources))
 
 -- the channel has a record: for the same member it is accepted again, with what the record has; another MID is refused
-abbrev pub decide_for : Existing → ℕ → Parameters → ℕ → Bool → Decision
-decide_for (existing.Known mid r reciprocal) asked p n free =
-    cond (eqb mid asked) (decision.Again r reciprocal) (decision.Refuse already_member)
-decide_for existing.Unknown asked p n free = decide_new p n free
+abbrev pub decide_for : Option Existing → ℕ → Parameters → ℕ → Bool → Decision
+decide_for (Some e) asked p n free =
+    cond (eqb e.mid asked) (decision.Again e.reliable e.reciprocal) (decision.Refuse reason.AlreadyMember)
+decide_for None asked p n free = decide_new p n free
 
-abbrev pub decide_at : Address → Existing → ℕ → ℕ → Bool → Decision
+abbrev pub decide_at : Address → Option Existing → ℕ → ℕ → Bool → Decision
 decide_at (address.Null p) e asked n free = decide_for e asked p n free
 decide_at (address.Ipv4 a p) e asked n free = decide_for e asked p n free
-decide_at (address.Other t) e asked n free = decision.Refuse bad_address
+decide_at (address.Other t) e asked n free = decision.Refuse reason.BadAddress
 
-unfoldable pub decided : Join → Existing → ℕ → Bool → Decision
+unfoldable pub decided : Join → Option Existing → ℕ → Bool → Decision
 decided j e n free =
-    cond (legal j) (decide_at j.address e j.mid n free) (decision.Refuse illegal_parameters)
+    cond (legal j) (decide_at j.address e j.mid n free) (decision.Refuse reason.IllegalParameters)
 
 -- ---- the new record
 

@@ -1,30 +1,38 @@
 // Joining and leaving of one channel: what a Join is answered, the record that it makes, and the messages that a member sends.
 #![tactic(auto)]
 
-ghost use Rattle.std.specs.Prelude.{◌≡◌, map};
-ghost use Rattle.record.specs.With.{free_place};
-ghost use Rattle.joining.specs.Joining.{legal_block, legal_address, legal, decide_new, decide_for, decided, new_record};
+ghost use Rattle.std.specs.Prelude.{◌≡◌};
+ghost use Rattle.joining.specs.Joining.{existing_of, legal_block, legal_address, legal, decide_new, decide_for, decided, new_record};
 ghost use Rattle.joining.specs.Replies.{member_at, asked_at, join_refuse_of, acceptance, departure, missing};
 
 use counter::Reliable;
 use message::{Address, Cid, Join, Membership, Message, Parameters};
-use record::{Gap, Place, Record, Terms, free_place, legal_names, legal_parameters};
+use record::{Gap, Reason, Record, Terms, legal_names, legal_parameters};
 
-// What the table has for a Join's owner and channel: the MID, R and reciprocal number of its record, or none.
-#[derive(Clone, Copy)]
-pub enum Existing {
-    Known {
-        mid: u16,
-        reliable: Reliable,
-        reciprocal: u16,
-    },
-    Unknown,
+// What the table has for a Join's owner and channel, if it has a record of them: the record's MID, R and reciprocal number.
+#[derive(Clone, Copy, Debug, PartialEq, Eq)]
+pub struct Existing {
+    pub mid: u16,
+    pub reliable: Reliable,
+    pub reciprocal: u16,
+}
+
+impl From<Record> for Existing {
+    ghost from_gives = { λ r e. e ≡ existing_of r };
+
+    fn from(r: Record) -> Existing {
+        Existing {
+            mid: r.terms.mid,
+            reliable: r.reliable,
+            reciprocal: r.terms.reciprocal,
+        }
+    }
 }
 
 // What a Join is answered: Join Refuse with a reason, Join Accept again with the record's numbers, or a new record with these parameters.
 #[derive(Clone, Copy)]
 pub enum Decision {
-    Refuse(u8),
+    Refuse(Reason),
     Again { reliable: Reliable, reciprocal: u16 },
     Make(Parameters),
 }
@@ -33,18 +41,14 @@ pub enum Decision {
 fn legal_block(p: Parameters) -> bool
     ensures { result ≡ legal_block p }
 {
-    if !legal_parameters(p.modulus, p.expiry) {
-        return false;
-    }
-    p.flags % 128 == 0
+    legal_parameters(p.modulus, p.expiry) && p.flags % 128 == 0
 }
 
 fn legal_address(address: Address) -> bool
     ensures { result ≡ legal_address address }
 {
     match address {
-        Address::Null(p) => legal_block(p),
-        Address::Ipv4(_, p) => legal_block(p),
+        Address::Null(p) | Address::Ipv4(_, p) => legal_block(p),
         Address::Other(_) => true,
     }
 }
@@ -53,11 +57,7 @@ fn legal_address(address: Address) -> bool
 fn is_legal(j: Join) -> bool
     ensures { result ≡ legal j }
 {
-    if !legal_names(j.channel, j.mid) {
-        return false;
-    }
-    let address = j.address;
-    legal_address(address)
+    legal_names(j.channel, j.mid) && legal_address(j.address)
 }
 
 #[tactic(auto, unfolding(crate::specs::Joining::decide_new))]
@@ -65,16 +65,17 @@ fn decide_new(p: Parameters, reciprocal: u16, free: bool) -> Decision
     ensures { result ≡ decide_new p reciprocal free }
 {
     if reciprocal == 0 {
-        return Decision::Refuse(record::NO_RECIPROCAL);
+        return Decision::Refuse(Reason::NoReciprocal);
     }
     if free {
-        return Decision::Make(p);
+        Decision::Make(p)
+    } else {
+        Decision::Refuse(Reason::LowResources)
     }
-    Decision::Refuse(record::LOW_RESOURCES)
 }
 
 fn decide_for(
-    existing: Existing,
+    existing: Option<Existing>,
     asked: u16,
     p: Parameters,
     reciprocal: u16,
@@ -82,48 +83,30 @@ fn decide_for(
 ) -> Decision
     ensures { result ≡ decide_for existing asked p reciprocal free }
 {
-    let Existing::Known {
-        mid,
-        reliable,
-        reciprocal: own,
-    } = existing
-    else {
-        return decide_new(p, reciprocal, free);
-    };
-    if mid == asked {
-        return Decision::Again {
-            reliable,
-            reciprocal: own,
-        };
+    match existing {
+        None => decide_new(p, reciprocal, free),
+        Some(known) if known.mid == asked => Decision::Again {
+            reliable: known.reliable,
+            reciprocal: known.reciprocal,
+        },
+        Some(_) => Decision::Refuse(Reason::AlreadyMember),
     }
-    Decision::Refuse(record::ALREADY_MEMBER)
 }
 
 // What a Join is answered.
 #[tactic(auto, unfolding(crate::specs::Joining::decided))]
-pub fn decide(j: Join, existing: Existing, reciprocal: u16, free: bool) -> Decision
+pub fn decide(j: Join, existing: Option<Existing>, reciprocal: u16, free: bool) -> Decision
     ensures { result ≡ decided j existing reciprocal free }
 {
     if !is_legal(j) {
-        return Decision::Refuse(record::ILLEGAL_PARAMETERS);
+        return Decision::Refuse(Reason::IllegalParameters);
     }
-    let address = j.address;
-    match address {
-        Address::Null(p) => decide_for(existing, j.mid, p, reciprocal, free),
-        Address::Ipv4(_, p) => decide_for(existing, j.mid, p, reciprocal, free),
-        Address::Other(_) => Decision::Refuse(record::BAD_ADDRESS),
+    match j.address {
+        Address::Null(p) | Address::Ipv4(_, p) => {
+            decide_for(existing, j.mid, p, reciprocal, free)
+        }
+        Address::Other(_) => Decision::Refuse(Reason::BadAddress),
     }
-}
-
-#[tactic(auto, using(crate::proofs::Arms::four_free))]
-fn all_free(places: [Place; 4]) -> [Place; 4]
-    ensures { result ≡ map free_place places }
-{
-    let p = places[0];
-    let q = places[1];
-    let r = places[2];
-    let s = places[3];
-    [free_place(p), free_place(q), free_place(r), free_place(s)]
 }
 
 // The record that a Join makes of a free one.
@@ -131,9 +114,6 @@ fn all_free(places: [Place; 4]) -> [Place; 4]
 pub fn new_record(old: Record, owner: Cid, j: Join, p: Parameters, reciprocal: u16) -> Record
     ensures { result ≡ new_record old owner j p reciprocal }
 {
-    let total = j.total;
-    let reliable = j.reliable;
-    let places = old.places;
     Record {
         used: true,
         terms: Terms {
@@ -147,13 +127,13 @@ pub fn new_record(old: Record, owner: Cid, j: Join, p: Parameters, reciprocal: u
             modulus: p.modulus,
             maxwait: p.maxwait,
         },
-        total,
-        reliable,
-        known: reliable,
-        acked: reliable,
+        total: j.total,
+        reliable: j.reliable,
+        known: j.reliable,
+        acked: j.reliable,
         idle: 0,
         gap: Gap::Quiet,
-        places: all_free(places),
+        places: old.places.map(|place| place.freed()),
     }
 }
 
@@ -161,9 +141,8 @@ pub fn new_record(old: Record, owner: Cid, j: Join, p: Parameters, reciprocal: u
 fn member_at(t: Terms, reliable: Reliable) -> Membership
     ensures { result ≡ member_at t reliable }
 {
-    let leader = t.owner;
     Membership {
-        leader,
+        leader: t.owner,
         channel: t.channel,
         mid: t.mid,
         reliable,
@@ -187,9 +166,8 @@ fn asked_at(owner: Cid, j: Join, reliable: Reliable) -> Membership
 pub fn join_refuse_of(owner: Cid, j: Join, reason: u8) -> Message
     ensures { result ≡ join_refuse_of owner j reason }
 {
-    let reliable = j.reliable;
     Message::JoinRefuse {
-        member: asked_at(owner, j, reliable),
+        member: asked_at(owner, j, j.reliable),
         reason,
     }
 }
