@@ -27,7 +27,7 @@ use Rattle.asking.specs.declared.Asked.TheVariants as asked
 
 -- ---- a wrapper
 
-module _ (ts : List Record) (s : Cid) (b : Bool) (w : Wrapper) (n : ℕ) (f : Option ℕ) (e : f ≡ found 0 s w.channel ts) where
+module _ (ts : List Record) (s : Cid) (b : Bool) (w : Wrapper) (n : ℕ) (f : Option ℕ) (e : f ≡ found s w.channel ts) where
   pub wrapper_unknown : f ≡ None → Err refusal.NoRecord ≡ wrapper_asks ts s b w n
   unfolding wrapper_asks
   wrapper_unknown u = rw (← e, u)

@@ -31,7 +31,7 @@ use Rattle.asking.proofs.Wrappers.{reliable_read, unreliable_read}
 
 -- data d of vector v, from s, asks for a step of record i by w
 pub record Step (ts : List Record) (s : Cid) (v : ℕ) (d : List ℕ) (i : ℕ) (w : Arrived) : Type 0 where
-  pub finds : found 0 s (wrapper_of d).channel ts ≡ Some i
+  pub finds : found s (wrapper_of d).channel ts ≡ Some i
   pub within : i < length ts
   pub used : (record_at ts i).used ≡ true
   pub named : named s (wrapper_of d).channel (record_at ts i) ≡ true
@@ -54,12 +54,12 @@ module _ (ts : List Record) (s o : Cid) (i : ℕ) (w : Arrived) where
 
   -- a wrapper asks for a step of the record that it found, and its contents fit
   wrapper_step_lem : (b : Bool) (x : Wrapper) (n : ℕ) → wrapper_asks ts s b x n ≡ Ok (asked.Wrapper i w)
-      → (found 0 s x.channel ts ≡ Some i) × (n ≤ most_contents) × (w ≡ arrived_of b x n)
+      → (found s x.channel ts ≡ Some i) × (n ≤ most_contents) × (w ≡ arrived_of b x n)
   unfolding wrapper_asks
-  wrapper_step_lem b x n e = by (found 0 s x.channel ts) (ltb most_contents n) refl refl e
+  wrapper_step_lem b x n e = by (found s x.channel ts) (ltb most_contents n) refl refl e
     where
-      by : (f : Option ℕ) (t : Bool) → found 0 s x.channel ts ≡ f → ltb most_contents n ≡ t → wrapper_for f b x n ≡ Ok (asked.Wrapper i w)
-          → (found 0 s x.channel ts ≡ Some i) × (n ≤ most_contents) × (w ≡ arrived_of b x n)
+      by : (f : Option ℕ) (t : Bool) → found s x.channel ts ≡ f → ltb most_contents n ≡ t → wrapper_for f b x n ≡ Ok (asked.Wrapper i w)
+          → (found s x.channel ts ≡ Some i) × (n ≤ most_contents) × (w ≡ arrived_of b x n)
       by None t g h e = absurd (refused_is_none refusal.NoRecord e)
       by (Some j) true g h e = absurd (refused_is_none refusal.ContentsOver (rw h at e))
       by (Some j) false g h e =

@@ -38,7 +38,7 @@ wrapper_for (Some i) reliably w len = cond (ltb most_contents len) (Err refusal.
 
 -- a wrapper belongs to the record of its sender and of the channel that it names
 unfoldable pub wrapper_asks : List Record → Cid → Bool → Wrapper → ℕ → Result Asked Refusal
-wrapper_asks ts s reliably w len = wrapper_for (found 0 s w.channel ts) reliably w len
+wrapper_asks ts s reliably w len = wrapper_for (found s w.channel ts) reliably w len
 
 -- 5 if a Join is meant for another component than ours
 unfoldable pub join_asks : Cid → Join → Result Asked Refusal

@@ -46,16 +46,16 @@ departed ts i reason n r room after f p = departed_by (departing ts i reason) _ 
 
 -- ---- refusals 6 and 10
 
-module _ (ts : List Record) (reason : ℕ) (o : Cid) (c : ℕ) (f : Option ℕ) (e : f ≡ found 0 o c ts) (a : Result Left Refusal) (room : List ℕ) where
-  pub leave_unknown : f ≡ None → a ≡ Err refusal.NoRecord → Departed (leave_for ts reason (found 0 o c ts)) a room room
+module _ (ts : List Record) (reason : ℕ) (o : Cid) (c : ℕ) (f : Option ℕ) (e : f ≡ found o c ts) (a : Result Left Refusal) (room : List ℕ) where
+  pub leave_unknown : f ≡ None → a ≡ Err refusal.NoRecord → Departed (leave_for ts reason (found o c ts)) a room room
   leave_unknown u g = rw (← e, u) (refused ts refusal.NoRecord a room g)
 
   module _ (i : ℕ) (u : f ≡ Some i) (b : Bool) (h : b ≡ leaving_reason reason) where
-    pub leave_unreasoned : not b ≡ true → a ≡ Err refusal.WrongReason → Departed (leave_for ts reason (found 0 o c ts)) a room room
+    pub leave_unreasoned : not b ≡ true → a ≡ Err refusal.WrongReason → Departed (leave_for ts reason (found o c ts)) a room room
     leave_unreasoned t g = rw (← e, u, ← h, not-true b t) (refused ts refusal.WrongReason a room g)
 
     pub leave_taken : not b ≡ false → (after : List ℕ) → Departed (departing ts i reason) a room after
-        → Departed (leave_for ts reason (found 0 o c ts)) a room after
+        → Departed (leave_for ts reason (found o c ts)) a room after
     leave_taken t after g = rw (← e, u, ← h, not-false b t) g
 
 -- ---- refusals 1 and 2
@@ -86,7 +86,7 @@ module _ (ts : List Record) (l : length ts ≡ 8) (room owner : List ℕ) (c rea
           rw (eq-eqb (length ts) 8 l, eq-eqb (length room) reply_size s.long, eq-eqb (length owner) cid_size k.long, ← f, not-true b t)
           (as_lent (refused_leave ts refusal.WrongTable) lent (refused ts refusal.WrongTable a lent e))
 
-      pub leave_asked : not b ≡ false → (o : Cid) (after : List ℕ) → o ≡ cid_at own 0 → Departed (leave_for ts reason (found 0 o c ts)) a lent after
+      pub leave_asked : not b ≡ false → (o : Cid) (after : List ℕ) → o ≡ cid_at own 0 → Departed (leave_for ts reason (found o c ts)) a lent after
           → Call after
       unfolding leave_outcome leave_sizes
       leave_asked t o after q e =

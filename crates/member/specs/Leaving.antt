@@ -44,7 +44,7 @@ unfoldable pub leave_outcome : List Record → ℕ → List ℕ → ℕ → ℕ 
 leave_outcome ts reply owner channel reason =
     cond (not (leave_sizes (length ts) reply (length owner))) (refused_leave ts refusal.WrongSize)
     (cond (not (table_formed ts)) (refused_leave ts refusal.WrongTable)
-    (leave_for ts reason (found 0 (cid_at owner 0) channel ts)))
+    (leave_for ts reason (found (cid_at owner 0) channel ts)))
 
 -- ---- written into the reply room
 

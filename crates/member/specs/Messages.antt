@@ -1,6 +1,6 @@
 -- A message call (01, "Refusal numbers", "Joining" and "One channel"): what it does as values and lists of octets, and then what is written into the
 -- lent rooms. ts is the table, s the sender's CID and o ours, v the vector, d the data and n the caller's reciprocal number.
-use Rattle.std.specs.Prelude.{ℕ, Bool, cond, not, List, [], Option, Some, None, is_some, Result, Ok, Err, ◌≡◌, length, set}
+use Rattle.std.specs.Prelude.{ℕ, cond, not, List, [], Option, Some, None, is_some, option_map, Result, Ok, Err, ◌≡◌, length, set}
 use Rattle.octets.specs.Octets.{splice}
 use Rattle.message.specs.Layouts.{cid_at}
 use Rattle.message.specs.Reading.{contents}
@@ -15,7 +15,6 @@ use Rattle.wrapper.specs.declared.Arrived.{Arrived}
 use Rattle.wrapper.specs.declared.Plan.{Plan}
 use Rattle.joining.specs.Joining.{existing_of, decided, new_record}
 use Rattle.joining.specs.declared.Existing.{Existing}
-use Rattle.joining.specs.declared.Existing.TheVariants as existing
 use Rattle.joining.specs.declared.Decision.{Decision}
 use Rattle.joining.specs.declared.Decision.TheVariants as decision
 use Rattle.table.specs.Table.{found, lowest_free, table_formed, record_at}
@@ -44,9 +43,8 @@ abbrev pub refused_message : List Record → List ℕ → Refusal → Outcome
 refused_message ts held why = record { table = ts; held = held; given = Err why; delivered = []; reply = [] }
 
 -- what the table has for a Join
-abbrev pub existing_at : List Record → Option ℕ → Existing
-existing_at ts (Some i) = existing_of (record_at ts i)
-existing_at ts None = existing.Unknown
+abbrev pub existing_at : List Record → Option ℕ → Option Existing
+existing_at ts at = option_map (λ i. existing_of (record_at ts i)) at
 
 -- the record that the Join's channel has after the call: the new one, or the one it had
 abbrev pub joined_at : Decision → Option ℕ → Option ℕ → Option ℕ
@@ -73,8 +71,8 @@ join_done ts held s j n known free answer =
 
 unfoldable pub join_outcome : List Record → List ℕ → Cid → Join → ℕ → Outcome
 join_outcome ts held s j n =
-    join_done ts held s j n (found 0 s j.channel ts) (lowest_free 0 ts)
-    (decided j (existing_at ts (found 0 s j.channel ts)) n (is_some (lowest_free 0 ts)))
+    join_done ts held s j n (found s j.channel ts) (lowest_free ts)
+    (decided j (existing_at ts (found s j.channel ts)) n (is_some (lowest_free ts)))
 
 -- the plan of record i for the wrapper w with contents c
 unfoldable pub plan_outcome : List Record → List ℕ → ℕ → Arrived → List ℕ → Plan → Outcome

@@ -15,7 +15,7 @@ fn depart(table: [Record; 8], reply: &mut [u8; REPLY], at: usize, reason: u8) ->
 {
     let r = table[at];
     let mut after = table;
-    after[at] = record::free_record(r);
+    after[at] = r.freed();
     Left {
         table: after,
         at,
@@ -31,7 +31,7 @@ pub fn take_leave(
     channel: u16,
     reason: u8,
 ) -> Result<Left, Refusal>
-    ensures { LeaveEndsAs (leave_for table reason (found 0 owner channel table)) reply.old (record { answer = result; reply = reply.new }) }
+    ensures { LeaveEndsAs (leave_for table reason (found owner channel table)) reply.old (record { answer = result; reply = reply.new }) }
 {
     let at = table::find(table, owner, channel).ok_or(Refusal::NoRecord)?;
     if !record::is_leaving_reason(reason) {

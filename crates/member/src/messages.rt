@@ -1,5 +1,5 @@
 // A message call (specs/Messages): what is refused, what a Join and a wrapper do to the table, and what is written into the lent rooms.
-ghost use Rattle.std.specs.Prelude.{◌≡◌, true, [], ℕ, ◌<◌, ◌≤◌, Some, Ok, length};
+ghost use Rattle.std.specs.Prelude.{◌≡◌, true, [], ◌<◌, ◌≤◌, Ok, IfSome, length};
 ghost use Rattle.message.specs.Reading.{contents};
 ghost use Rattle.record.specs.WellFormed.{well_formed, most_contents};
 ghost use Rattle.table.specs.Table.{table_formed, record_at};
@@ -16,19 +16,11 @@ use refusal::Refusal;
 use wrapper::{Arrived, Plan};
 
 // What the table has for a Join.
-fn existing_at(table: [Record; 8], at: Option<usize>) -> Existing
-    requires { (i : ℕ) → at ≡ Some i → i < 8 }
+fn existing_at(table: [Record; 8], at: Option<usize>) -> Option<Existing>
+    requires { IfSome at (λ i. i < 8) }
     ensures { result ≡ existing_at table at }
 {
-    let Some(i) = at else {
-        return Existing::Unknown;
-    };
-    let r = table[i];
-    Existing::Known {
-        mid: r.terms.mid,
-        reliable: r.reliable,
-        reciprocal: r.terms.reciprocal,
-    }
+    at.map(|i| Existing::from(table[i]))
 }
 
 // Which record the channel of a Join now has: the new one, or the one it had.
@@ -50,7 +42,7 @@ fn table_after(
     decision: Decision,
     free: Option<usize>,
 ) -> [Record; 8]
-    requires { (i : ℕ) → free ≡ Some i → i < 8 }
+    requires { IfSome free (λ i. i < 8) }
     ensures { result ≡ table_after table sender j reciprocal decision free }
 {
     let mut after = table;

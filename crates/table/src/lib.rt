@@ -81,7 +81,7 @@ pub fn is_formed(table: [Record; 8]) -> bool
 {
     let mut left = &table[..];
     while let Some((r, later)) = left.split_first() {
-        if !record::is_well_formed(*r) || !is_apart(*r, later) {
+        if !r.is_well_formed() || !is_apart(*r, later) {
             return false;
         }
         left = later;
