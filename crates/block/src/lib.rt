@@ -7,8 +7,6 @@ ghost use Rattle.block.specs.Block.{scan_of};
 ghost use Rattle.block.specs.Cursor.{astray};
 ghost use Rattle.block.specs.Allowed.{ReadBlockAllows, OpenBlockAllows, NextMessageAllows};
 
-use octets::u8_at;
-
 // A message of a block: the place of its vector, and the place and length of its data.
 #[repr(C)]
 #[derive(Clone, Copy)]
@@ -112,9 +110,9 @@ fn size_at(block: &[u8], at: usize, b: usize) -> usize
     requires b_in_bounds { at + head_size b ≤ length block.now }
     ensures { (result ≡ size_at block.now at) × (result < 1048576) }
 {
-    let low = b % 16 * 256 + u8_at(block, at + 1);
+    let low = b % 16 * 256 + block[at + 1] as usize;
     if b / 128 % 2 == 1 {
-        low * 256 + u8_at(block, at + 2)
+        low * 256 + block[at + 2] as usize
     } else {
         low
     }
@@ -159,7 +157,7 @@ fn pdu_at(block: &[u8], at: usize, before: Found) -> Pdu
     requires { at < length block.now }
     ensures { (result ≡ pdu_at block.now at before) × (Within block.now at result) }
 {
-    let b = u8_at(block, at);
+    let b = block[at] as usize;
     if lacks_flag(at, b) {
         return Pdu::Bad;
     }

@@ -1,4 +1,3 @@
-pub mod Table
 pub mod Lengths
 pub mod Readable
 pub mod Arms

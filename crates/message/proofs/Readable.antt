@@ -8,8 +8,10 @@ use mathlib.Core.Bool.{Bool, true, false, ◌&&◌, ◌||◌, and-eq-true_iff, a
 use mathlib.Core.List.{List}
 use lib.ListN.{length, get_or}
 use lib.Dec.{eqb, leb, ltb}
-use borrow.Author.Tests.{eqb-true, eqb-false, leb-true, leb-false, lt-ltb, eq-eqb, ne_eqb}
-use Rattle.message.specs.Lengths.{reliable_wrapper, unreliable_wrapper, join, join_refuse, join_accept, leaving, ack, nak, get_sessions, null, ipv4, look, length_of}
+use borrow.Author.Tests.{eqb-true, eqb-false, leb-true, leb-false, lt-ltb, ne_eqb}
+use Rattle.message.specs.Lengths.{reliable_wrapper, unreliable_wrapper, join, join_refuse, join_accept, leaving, ack, nak, get_sessions, null, ipv4, look, length_of, exactly}
+use Rattle.std.specs.Prelude.{None}
+use Rattle.std.proofs.lemmas.Option.{none-some}
 use Rattle.message.specs.Reading.{readable_join, readable}
 use Rattle.message.proofs.Lengths.{NoneOfNine, no_row}
 
@@ -46,7 +48,7 @@ module _ (d : List ℕ) where
   unfolding readable_join
   join_length r =
       leb-true 31 (length d)
-      ((and-eq-true_iff (leb 31 (length d)) (ltb ipv4 (get_or d 30 0) || eqb (length d) (length_of join (get_or d 30 0)))).0 r).0
+      ((and-eq-true_iff (leb 31 (length d)) (ltb ipv4 (get_or d 30 0) || exactly (length_of join (get_or d 30 0)) (length d))).0 r).0
 
   -- ---- what each vector asks
 
@@ -120,16 +122,16 @@ module _ (v : ℕ) (d : List ℕ) where
 
 module _ (v : ℕ) (d : List ℕ) where
   -- Join and the wrappers have rows
-  apart : length_of v null ≡ 0 → (v ≢ join) × ((v ≢ reliable_wrapper) × (v ≢ unreliable_wrapper))
+  apart : length_of v null ≡ None → (v ≢ join) × ((v ≢ reliable_wrapper) × (v ≢ unreliable_wrapper))
   unfolding length_of look
-  apart e = (λ q. omega (arith, rw q at e), (λ q. omega (arith, rw q at e), λ q. omega (arith, rw q at e)))
+  apart e = (λ q. none-some _ (sym (rw q at e)), (λ q. none-some _ (sym (rw q at e)), λ q. none-some _ (sym (rw q at e))))
 
   -- a vector with no row is none of ours
-  pub rowless : length_of v null ≡ 0 → readable v d ≡ false
+  pub rowless : length_of v null ≡ None → readable v d ≡ false
   unfolding readable
   rowless e =
       let a = apart e in
-      rw (ne_eqb v join a.0, ne_eqb v reliable_wrapper a.1.0, ne_eqb v unreliable_wrapper a.1.1, eq-eqb (length_of v null) 0 e)
+      rw (ne_eqb v join a.0, ne_eqb v reliable_wrapper a.1.0, ne_eqb v unreliable_wrapper a.1.1, e)
 
   pub none_readable : NoneOfNine v → readable v d ≡ false
   none_readable n = rowless (no_row v n)
@@ -151,3 +153,7 @@ module _ (v : ℕ) (d : List ℕ) where
       by : (t : Bool) → eqb v get_sessions ≡ t → v ≡ get_sessions
       by true e = eqb-true v get_sessions e
       by false e = let g = eqb-false v get_sessions e in absurd (true≢false (sym r ∙ none_readable (omega arith)))
+
+pub ruleset fixed_lengths = (refuse_length, accept_length, leaving_length, ack_length, nak_length, sessions_length, last_vector)
+
+pub ruleset lengths = (reliable_length, unreliable_length, join_is, fixed_vector)

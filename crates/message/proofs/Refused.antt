@@ -6,6 +6,7 @@ use native.Mathlib.Omega.{arith}
 use mathlib.Core.Path.{◌≡◌, refl, sym, ap, ◌∙◌}
 use mathlib.Core.Logic.{◌↔◌}
 use mathlib.Core.Bool.{Bool, true, false}
+use Rattle.std.specs.Prelude.{Ok, Err}
 use mathlib.Core.List.{List, [], ◌∷◌}
 use lib.ListN.{length, get_or, take}
 use lib.Seq.{take-take, get_or-take}
@@ -15,25 +16,25 @@ use Rattle.message.specs.Lengths.{join, ipv4}
 use Rattle.message.specs.Layouts.{cid_at, join_of}
 use Rattle.message.specs.Reading.{readable, message_of, read_message}
 use Rattle.message.specs.declared.Message.TheVariants as message
-use Rattle.message.specs.declared.MessageRead.TheVariants.{Read, Unreadable}
+use Rattle.refusal.specs.declared.Refusal.TheVariants as refusal
 use Rattle.message.proofs.Readable.{join_readable, other_readable}
 use Rattle.message.proofs.Arms.{other_address, joining, answered}
 
 -- ---- refused exactly if not readable
 
 module _ (v : ℕ) (d : List ℕ) where
-  unreadable : readable v d ≡ false → read_message v d ≡ Unreadable
+  unreadable : readable v d ≡ false → read_message v d ≡ Err refusal.NoForm
   unfolding read_message
   unreadable e = rw e
 
-  not_readable : read_message v d ≡ Unreadable → readable v d ≡ false
+  not_readable : read_message v d ≡ Err refusal.NoForm → readable v d ≡ false
   not_readable e = by (readable v d) refl
     where
       by : (t : Bool) → readable v d ≡ t → readable v d ≡ false
       by true r = cc (answered v d (message_of v d) r refl)
       by false r = r
 
-  pub refused_exactly : read_message v d ≡ Unreadable ↔ readable v d ≡ false
+  pub refused_exactly : read_message v d ≡ Err refusal.NoForm ↔ readable v d ≡ false
   refused_exactly = (not_readable, unreadable)
 
 -- ---- only 31 octets looked at
@@ -56,7 +57,7 @@ type_take d = get_or-take 31 d 30 0 (omega arith)
 
 module _ (d : List ℕ) (h : ipv4 < get_or d 30 0) where
   -- such a Join is always readable: that its type is not 0 says that its 31 octets are there
-  pub other_read : read_message join d ≡ Read (message.Join (join_of d))
+  pub other_read : read_message join d ≡ Ok (message.Join (join_of d))
   other_read =
       sym
       (answered

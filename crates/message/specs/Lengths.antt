@@ -1,5 +1,6 @@
 -- The vectors of the nine messages and the one table of their data lengths (01, "Blocks and layouts").
-use Rattle.std.specs.Prelude.{ℕ, cond, ◌&&◌, List, [], ◌∷◌, eqb}
+use Rattle.std.specs.Prelude.{ℕ, Bool, false, ◌&&◌, List, [], ◌∷◌, eqb, leb, Option, Some, None, option_map}
+use Rattle.std.specs.List.{find}
 pub use Rattle.message.specs.declared.Row.{Row}
 
 -- 000, Table 3, as far as 01 takes it
@@ -56,17 +57,21 @@ rows =
     ∷ row unreliable_wrapper null 20
     ∷ []
 
--- the length in this row, and 0 if it is not that of this vector and address type
-abbrev pub length_in : Row → ℕ → ℕ → ℕ
-length_in r v a = cond (eqb v r.vector && eqb a r.address) r.len 0
+-- the length in the row of this vector and address type, and none if there is no such row
+unfoldable pub look : List Row → ℕ → ℕ → Option ℕ
+look rs v a = option_map (λ r. r.len) (find (λ r. eqb v r.vector && eqb a r.address) rs)
 
--- the length in the row of this vector and address type, and 0 if there is no such row
-unfoldable pub look : List Row → ℕ → ℕ → ℕ
-look [] v a = 0
-look (r ∷ rs) v a = cond (eqb v r.vector && eqb a r.address) r.len (look rs v a)
-
-unfoldable pub length_of : ℕ → ℕ → ℕ
+unfoldable pub length_of : ℕ → ℕ → Option ℕ
 length_of v a = look rows v a
+
+-- whether n octets are just as many as a row says, and whether they are as many or more
+abbrev pub exactly : Option ℕ → ℕ → Bool
+exactly None n = false
+exactly (Some len) n = eqb n len
+
+abbrev pub or_more : Option ℕ → ℕ → Bool
+or_more None n = false
+or_more (Some len) n = leb len n
 
 -- wrapper contents are at most 1,454 octets (01, "Room")
 abbrev pub most_contents : ℕ

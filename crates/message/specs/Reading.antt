@@ -1,23 +1,23 @@
 -- Reading a message (01, "Refusal numbers" and "Blocks and layouts"): v is its vector and d its data.
-use Rattle.std.specs.Prelude.{ℕ, Bool, cond, not, ◌&&◌, ◌||◌, List, length, get_or, drop, ltb, leb, eqb}
+use Rattle.std.specs.Prelude.{ℕ, Bool, cond, ◌&&◌, ◌||◌, List, length, get_or, drop, ltb, leb, eqb, Result, Ok, Err}
+use Rattle.refusal.specs.declared.Refusal.{Refusal}
+use Rattle.refusal.specs.declared.Refusal.TheVariants as refusal
 use Rattle.octets.specs.Octets.{number_at}
-use Rattle.message.specs.Lengths.{length_of, reliable_wrapper, unreliable_wrapper, join, join_refuse, join_accept, leaving, ack, nak, null, ipv4}
+use Rattle.message.specs.Lengths.{length_of, exactly, or_more, reliable_wrapper, unreliable_wrapper, join, join_refuse, join_accept, leaving, ack, nak, null, ipv4}
 use Rattle.message.specs.Layouts.{reliable, cid_at, membership_of, wrapper_of, join_of}
 use Rattle.message.specs.declared.Message.{Message}
 use Rattle.message.specs.declared.Message.TheVariants as message
-use Rattle.message.specs.declared.MessageRead.{MessageRead}
-use Rattle.message.specs.declared.MessageRead.TheVariants.{Read, Unreadable}
 
 -- a Join: with a null or an IPv4 address it has that row's length; with another type 31 octets or more
 unfoldable pub readable_join : List ℕ → Bool
-readable_join d = leb 31 (length d) && (ltb ipv4 (get_or d 30 0) || eqb (length d) (length_of join (get_or d 30 0)))
+readable_join d = leb 31 (length d) && (ltb ipv4 (get_or d 30 0) || exactly (length_of join (get_or d 30 0)) (length d))
 
 -- a wrapper has the length of its row or more, and any other message exactly that of its row; a vector with no row is none of ours
 unfoldable pub readable : ℕ → List ℕ → Bool
 readable v d =
     cond (eqb v join) (readable_join d)
-    (cond (eqb v reliable_wrapper || eqb v unreliable_wrapper) (leb (length_of v null) (length d))
-    (not (eqb (length_of v null) 0) && eqb (length d) (length_of v null)))
+    (cond (eqb v reliable_wrapper || eqb v unreliable_wrapper) (or_more (length_of v null) (length d))
+    (exactly (length_of v null) (length d)))
 
 -- the messages of fixed length, by vector; the last of them is Get Sessions
 unfoldable pub fixed_of : ℕ → List ℕ → Message
@@ -38,13 +38,8 @@ message_of v d =
     (fixed_of v d)))
 
 -- reading a message checks 4 alone: what is not readable is refused
-unfoldable pub read_message : ℕ → List ℕ → MessageRead
-read_message v d = cond (readable v d) (Read (message_of v d)) Unreadable
-
--- 01's number for what reading a message answers; 0 if it is read
-abbrev pub number_of : MessageRead → ℕ
-number_of (Read m) = 0
-number_of Unreadable = 4
+unfoldable pub read_message : ℕ → List ℕ → Result Message Refusal
+read_message v d = cond (readable v d) (Ok (message_of v d)) (Err refusal.NoForm)
 
 -- a wrapper's contents: its data past its own 20 octets
 abbrev pub contents : List ℕ → List ℕ

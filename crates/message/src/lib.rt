@@ -1,14 +1,15 @@
 // The nine messages that the controller reads: their fields, the one table of their data lengths, and reading them.
 #![tactic(auto)]
 
-ghost use Rattle.std.specs.Prelude.{◌≡◌, true, ◌+◌, ◌≤◌, length};
-ghost use Rattle.message.specs.Lengths.{join_refuse, length_in, length_of};
+ghost use Rattle.std.specs.Prelude.{◌≡◌, true, ◌+◌, ◌≤◌, length, IfSome};
+ghost use Rattle.message.specs.Lengths.{join_refuse, length_of};
 ghost use Rattle.message.specs.Layouts.{cid_at, membership_of, wrapper_of, parameters_at, address_of, join_of};
 ghost use Rattle.message.specs.Reading.{readable_join, readable, fixed_of, message_of};
 ghost use Rattle.message.specs.Allowed.{ReadMessageAllows};
 
 use counter::{Reliable, Total};
-use octets::{u16_at, u32_at, u64_at};
+use octets::Field;
+use refusal::Refusal;
 
 // A component's identifier: its 16 octets as two numbers, so that it compares in two tests.
 #[repr(C)]
@@ -103,13 +104,6 @@ pub enum Message {
     GetSessions(Cid),
 }
 
-// What reading a message answers. `Unreadable` is refusal 4.
-#[derive(Clone, Copy)]
-pub enum MessageRead {
-    Read(Message),
-    Unreadable,
-}
-
 // The vectors of the nine messages.
 pub const RELIABLE_WRAPPER: u8 = 1;
 
@@ -199,37 +193,19 @@ const ROWS: [Row; 10] = [
     },
 ];
 
-// The length in this row, and 0 if the row is not that of this vector and address.
-fn length_in(row: Row, vector: u8, address: u8) -> usize
-    ensures { result ≡ length_in row vector address }
+// The data length of a vector's message with an address of this type: 0 is null (or no address), 1 is IPv4. None if no row has it.
+#[tactic(auto, using(crate::proofs::Lengths::at_most_46), unfolding(crate::specs::Lengths::length_of, crate::specs::Lengths::look))]
+pub fn length_of(vector: u8, address: u8) -> Option<usize>
+    ensures length { result ≡ length_of vector address }
+    ensures at_most_46 { IfSome result (λ len. len ≤ 46) }
 {
-    if vector != row.vector {
-        return 0;
-    }
-    if address != row.address {
-        return 0;
-    }
-    row.len
-}
-
-// The data length of a vector's message with an address of this type: 0 is null (or no address), 1 is IPv4. 0 if no row has it. The rows are
-// named once before the loop, since the compiler would else lay them out anew in each turn; so it makes a switch of the whole search.
-pub fn length_of(vector: u8, address: u8) -> usize
-    ensures { (result ≡ length_of vector address) × (result ≤ 46) }
-{
-    let rows = ROWS;
-    let mut at = 0;
-    while at < 10 {
-        let len = length_in(rows[at], vector, address);
-        if len != 0 {
-            return len;
-        }
-        at += 1;
-    }
-    0
+    ROWS.iter()
+        .find(|row| row.vector == vector && row.address == address)
+        .map(|row| row.len)
 }
 
 // Whether data is that of a Join: one with a null or an IPv4 address has its exact length, and any other its first 31 octets.
+#[tactic(auto, unfolding(crate::specs::Reading::readable_join))]
 fn readable_join(body: &[u8]) -> bool
     ensures { result ≡ readable_join body.now }
 {
@@ -237,66 +213,63 @@ fn readable_join(body: &[u8]) -> bool
         return false;
     }
     let address = body[30];
-    if ADDRESS_IPV4 < address {
-        return true;
-    }
-    body.len() == length_of(JOIN, address)
+    ADDRESS_IPV4 < address || length_of(JOIN, address) == Some(body.len())
 }
 
 // Whether a message can be read: its vector is one of the nine, and its data has a length and an address form of the table.
+#[tactic(auto, unfolding(crate::specs::Reading::readable))]
 fn is_readable(vector: u8, body: &[u8]) -> bool
     ensures { result ≡ readable vector body.now }
 {
-    if vector == JOIN {
-        return readable_join(body);
+    let of_row = length_of(vector, ADDRESS_NULL);
+    match vector {
+        JOIN => readable_join(body),
+        RELIABLE_WRAPPER | UNRELIABLE_WRAPPER => of_row.is_some_and(|least| least <= body.len()),
+        _ => of_row == Some(body.len()),
     }
-    let exact = length_of(vector, ADDRESS_NULL);
-    if exact == 0 {
-        return false;
-    }
-    if vector <= UNRELIABLE_WRAPPER {
-        return exact <= body.len();
-    }
-    body.len() == exact
 }
 
+#[tactic(auto, unfolding(crate::specs::Layouts::cid_at))]
 fn cid_at(s: &[u8], at: usize) -> Cid
     requires { at + 16 ≤ length s.now }
     ensures { result ≡ cid_at s.now at }
 {
     Cid {
-        high: u64_at(s, at),
-        low: u64_at(s, at + 8),
+        high: u64::at(s, at),
+        low: u64::at(s, at + 8),
     }
 }
 
+#[tactic(auto, unfolding(crate::specs::Layouts::membership_of))]
 fn membership_of(body: &[u8]) -> Membership
     requires { 24 ≤ length body.now }
     ensures { result ≡ membership_of body.now }
 {
     Membership {
         leader: cid_at(body, 0),
-        channel: u16_at(body, 16),
-        mid: u16_at(body, 18),
-        reliable: Reliable(u32_at(body, 20)),
+        channel: u16::at(body, 16),
+        mid: u16::at(body, 18),
+        reliable: Reliable(u32::at(body, 20)),
     }
 }
 
+#[tactic(auto, unfolding(crate::specs::Layouts::wrapper_of))]
 fn wrapper_of(body: &[u8]) -> Wrapper
     requires { 20 ≤ length body.now }
     ensures { result ≡ wrapper_of body.now }
 {
     Wrapper {
-        channel: u16_at(body, 0),
-        total: Total(u32_at(body, 2)),
-        reliable: Reliable(u32_at(body, 6)),
-        oldest: Reliable(u32_at(body, 10)),
-        first: u16_at(body, 14),
-        last: u16_at(body, 16),
-        threshold: u16_at(body, 18),
+        channel: u16::at(body, 0),
+        total: Total(u32::at(body, 2)),
+        reliable: Reliable(u32::at(body, 6)),
+        oldest: Reliable(u32::at(body, 10)),
+        first: u16::at(body, 14),
+        last: u16::at(body, 16),
+        threshold: u16::at(body, 18),
     }
 }
 
+#[tactic(auto, unfolding(crate::specs::Layouts::parameters_at))]
 fn parameters_at(s: &[u8], at: usize) -> Parameters
     requires { at + 9 ≤ length s.now }
     ensures { result ≡ parameters_at s.now at }
@@ -304,14 +277,15 @@ fn parameters_at(s: &[u8], at: usize) -> Parameters
     Parameters {
         expiry: s[at],
         flags: s[at + 1],
-        holdoff: u16_at(s, at + 2),
-        modulus: u16_at(s, at + 4),
-        maxwait: u16_at(s, at + 6),
+        holdoff: u16::at(s, at + 2),
+        modulus: u16::at(s, at + 4),
+        maxwait: u16::at(s, at + 6),
         adhoc: s[at + 8],
     }
 }
 
 // The address of a Join's data and what follows it.
+#[tactic(auto, using(crate::proofs::Readable::join_length, crate::proofs::Readable::null_length, crate::proofs::Readable::ipv4_length), unfolding(crate::specs::Layouts::address_of, crate::specs::Layouts::endpoint_at))]
 fn address_of(body: &[u8]) -> Address
     requires { readable_join body.now ≡ true }
     ensures { result ≡ address_of body.now }
@@ -322,14 +296,15 @@ fn address_of(body: &[u8]) -> Address
     }
     if address == ADDRESS_IPV4 {
         let endpoint = Endpoint {
-            port: u16_at(body, 31),
-            host: u32_at(body, 33),
+            port: u16::at(body, 31),
+            host: u32::at(body, 33),
         };
         return Address::Ipv4(endpoint, parameters_at(body, 37));
     }
     Address::Other(address)
 }
 
+#[tactic(auto, using(crate::proofs::Readable::join_length), unfolding(crate::specs::Layouts::join_of))]
 fn join_of(body: &[u8]) -> Join
     requires { readable_join body.now ≡ true }
     ensures { result ≡ join_of body.now }
@@ -337,16 +312,17 @@ fn join_of(body: &[u8]) -> Join
     let address = address_of(body);
     Join {
         cid: cid_at(body, 0),
-        mid: u16_at(body, 16),
-        channel: u16_at(body, 18),
-        reciprocal: u16_at(body, 20),
-        total: Total(u32_at(body, 22)),
-        reliable: Reliable(u32_at(body, 26)),
+        mid: u16::at(body, 16),
+        channel: u16::at(body, 18),
+        reciprocal: u16::at(body, 20),
+        total: Total(u32::at(body, 22)),
+        reliable: Reliable(u32::at(body, 26)),
         address,
     }
 }
 
 // A readable message whose data length is fixed.
+#[tactic(auto, using(crate::proofs::Readable::fixed_lengths), unfolding(crate::specs::Reading::fixed_of))]
 fn fixed_of(vector: u8, body: &[u8]) -> Message
     requires body_value { readable vector body.now ≡ true }
     requires join_refuse_le_vector { join_refuse ≤ vector }
@@ -359,17 +335,17 @@ fn fixed_of(vector: u8, body: &[u8]) -> Message
         },
         JOIN_ACCEPT => Message::JoinAccept {
             member: membership_of(body),
-            reciprocal: u16_at(body, 24),
+            reciprocal: u16::at(body, 24),
         },
         LEAVING => Message::Leaving {
             member: membership_of(body),
             reason: body[24],
         },
-        ACK => Message::Ack(Reliable(u32_at(body, 0))),
+        ACK => Message::Ack(Reliable(u32::at(body, 0))),
         NAK => Message::Nak {
             member: membership_of(body),
-            first: Reliable(u32_at(body, 24)),
-            last: Reliable(u32_at(body, 28)),
+            first: Reliable(u32::at(body, 24)),
+            last: Reliable(u32::at(body, 28)),
         },
         _ => Message::GetSessions(cid_at(body, 0)),
     }
@@ -377,6 +353,7 @@ fn fixed_of(vector: u8, body: &[u8]) -> Message
 
 // A readable message.
 #[inline(always)]
+#[tactic(auto, using(crate::proofs::Readable::lengths), unfolding(crate::specs::Reading::message_of))]
 fn message_of(vector: u8, body: &[u8]) -> Message
     requires { readable vector body.now ≡ true }
     ensures { result ≡ message_of vector body.now }
@@ -391,11 +368,12 @@ fn message_of(vector: u8, body: &[u8]) -> Message
 
 // The message of this vector and data. A wrapper's contents are its data past the first 20 octets.
 #[inline(always)]
-pub fn read_message(vector: u8, body: &[u8]) -> MessageRead
+#[tactic(auto, unfolding(crate::specs::Reading::read_message))]
+pub fn read_message(vector: u8, body: &[u8]) -> Result<Message, Refusal>
     ensures { ReadMessageAllows vector body.now result }
 {
     if !is_readable(vector, body) {
-        return MessageRead::Unreadable;
+        return Err(Refusal::NoForm);
     }
-    MessageRead::Read(message_of(vector, body))
+    Ok(message_of(vector, body))
 }

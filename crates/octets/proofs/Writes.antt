@@ -1,14 +1,16 @@
 -- What writes into lent octets come to: one `splice` for a number, for a run of numbers and for a copy. Assumes nothing.
 use mathlib.Core.Path.{◌≡◌, refl, sym, ap, ◌∙◌}
-use Prim.Native.Nat.{ℕ, suc, ◌+◌, ◌^◌, ◌/◌, ◌%◌, ◌<◌, ◌≤◌}
+use Prim.Native.Nat.{ℕ, zero, suc, ◌+◌, ◌-◌, ◌^◌, ◌/◌, ◌%◌, ◌<◌, ◌≤◌}
 use native.Mathlib.Nat.{div-one, mod-eq_of_lt, add_assoc}
 use native.Mathlib.Omega.{arith}
-use native.Mathlib.Numerals.{add-one}
 use mathlib.Core.List.{List, [], ◌∷◌, ◌++◌, append_assoc}
-use lib.ListN.{length, get_or, set, take, drop, length-append}
-use lib.Seq.{take-append_seam, length-take-le, take-length, take_at, drop_at, drop-drop, sets, sets-eq, length-sets, paste, paste-zero, paste-suc}
+use lib.ListN.{length, set, take, drop, length-append}
+use lib.Seq.{take-append_seam, length-take-le, take-length, take_at, drop_at, drop-drop, sets, sets-eq, length-sets, paste-zero}
+use borrow.Rule.Slice.PartMut.{put_mid}
+use Rattle.std.proofs.lemmas.Slice.{put_mid-paste}
+use Rattle.std.specs.Int.{bytes_high_first}
 use Rattle.octets.specs.Octets.{octets, part, splice, joined}
-use Rattle.octets.proofs.Numbers.{length_octets, octets_append, octets_mod}
+use Rattle.octets.proofs.Numbers.{length_octets}
 
 -- a run of stores is a splice
 stored : (s : List ℕ) (at : ℕ) (ys : List ℕ) → at + length ys ≤ length s → sets s at ys ≡ splice s at ys
@@ -41,31 +43,31 @@ unfolding splice
 part_splice s at ys h =
     rw (append_assoc (take at s) ys (drop (at + length ys) s), drop_at (take at s) (ys ++ drop (at + length ys) s) at (length-take-le at s h), take-append_seam)
 
--- ---- numbers
+-- ---- the library's copy
 
+-- ys copied over the k octets of s from `at` on
+pub copied : (s ys zs : List ℕ) (at k : ℕ) → ys ≡ zs → k ≡ length zs → put_mid at k s ys ≡ splice s at zs
+unfolding splice
+copied s ys zs at k e l =
+    put_mid-paste at k s ys zs (length zs) e (sym l) refl ∙ ap (λ (r : List ℕ). take at s ++ r ++ drop (at + length zs) s) (take-length zs)
+
+-- the octets that the library makes of a number
+be_octets : (n x : ℕ) → bytes_high_first n x ≡ octets n x
+unfolding octets
+be_octets zero x = refl
+be_octets (suc zero) x = ap (λ (k : ℕ). (k % 256) ∷ []) (sym (div-one x))
+be_octets (suc (suc n)) x = ap (λ (os : List ℕ). (x / 256 ^ suc n % 256) ∷ os) (be_octets (suc n) x)
+
+-- these copied over the n octets from `at` on
+pub number_copied : (n x : ℕ) (s ys : List ℕ) (at : ℕ) → ys ≡ bytes_high_first n x → put_mid at (at + n - at) s ys ≡ splice s at (octets n x)
+number_copied n x s ys at e = copied s ys (octets n x) at (at + n - at) (e ∙ be_octets n x) (omega (arith, length_octets n x))
+
+-- a number of one octet stored
 pub splice_one : (s : List ℕ) (at x : ℕ) → x < 256 → at + 1 ≤ length s → set s at x ≡ splice s at (octets 1 x)
 unfolding octets
 splice_one s at x hx h =
     let e : x / 1 % 256 ≡ x = rw (div-one x) (mod-eq_of_lt hx) in
     ap (λ (k : ℕ). set s at k) (sym e) ∙ stored s at (octets 1 x) h
-
-pub splice_two : (s : List ℕ) (at x : ℕ) → x < 65536 → at + 2 ≤ length s
-    → set (set s at (x / 256)) (at + 1) (x % 256) ≡ splice s at (octets 2 x)
-unfolding octets
-splice_two s at x hx h =
-    let e : x / 256 % 256 ≡ x / 256 = mod-eq_of_lt (omega arith) in
-    rw add-one
-    (ap (λ (k : ℕ). set (set s at k) (suc at) (x % 256)) (sym e)
-    ∙ ap (λ (k : ℕ). set (set s at (x / 256 % 256)) (suc at) (k % 256)) (sym (div-one x))
-    ∙ stored s at (octets 2 x) h)
-
--- a number of n + m octets, its upper n written and then its lower m
-pub splice_halves : (s : List ℕ) (at n m x : ℕ) → at + n ≤ length s
-    → splice (splice s at (octets n (x / 256 ^ m))) (at + n) (octets m (x % 256 ^ m)) ≡ splice s at (octets (n + m) x)
-splice_halves s at n m x h =
-    ap (λ (r : List ℕ). splice (splice s at (octets n (x / 256 ^ m))) (at + n) r) (octets_mod m x)
-    ∙ splice_splice s at n (octets n (x / 256 ^ m)) (octets m x) (length_octets n (x / 256 ^ m)) h
-    ∙ ap (splice s at) (sym (octets_append n m x))
 
 -- ---- a run of writes
 
@@ -81,13 +83,3 @@ run_splice (p ∷ ps) s at h =
     let k : length (splice s at p) ≡ length s = length_splice s at p (omega arith) in
     run_splice ps (splice s at p) (at + length p) (omega arith)
     ∙ splice_splice s at (length p) p (joined ps) refl (omega arith)
-
--- ---- the copy's loop
-
-pub copy_turn : (s₀ s from : List ℕ) (at i : ℕ) → s ≡ paste s₀ at from i → at + i < length s₀ → i < length from
-    → set s (at + i) (get_or from i 0) ≡ paste s₀ at from (i + 1)
-copy_turn s₀ s from at i e hs hf = rw (e, add-one i) (paste-suc s₀ at from i 0 hs hf)
-
-pub copy_done : (s₀ s from : List ℕ) (at i : ℕ) → s ≡ paste s₀ at from i → i ≡ length from → s ≡ splice s₀ at from
-unfolding splice
-copy_done s₀ s from at i e h = e ∙ rw (h, take-length)

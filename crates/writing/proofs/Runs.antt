@@ -1,26 +1,43 @@
 -- What a run of writes leaves that puts each piece right behind the one before: one `splice` of the pieces joined. Assumes nothing.
-use mathlib.Core.Path.{◌≡◌, refl, ap, ◌∙◌}
+use mathlib.Core.Path.{◌≡◌, refl, ◌∙◌}
 use Prim.Native.Nat.{ℕ, ◌+◌, ◌≤◌}
-use mathlib.Core.List.{List, [], ◌∷◌}
-use lib.ListN.{length}
-use Rattle.octets.specs.Octets.{splice, joined}
-use Rattle.octets.proofs.Writes.{run, run_splice}
+use native.Mathlib.Omega.{arith}
+use mathlib.Core.List.{List, [], ◌∷◌, ◌++◌}
+use lib.ListN.{length, length-append}
+use Rattle.octets.specs.Octets.{octets, splice, joined}
+use Rattle.octets.proofs.Numbers.{length_octets}
+use Rattle.octets.proofs.Writes.{length_splice, splice_nothing, splice_splice}
 
--- s with the pieces ps written from `at` on, one after the other, is u; what each call ensures is one step, in the order of the calls
+-- xs written over the octets of s from `at` on: t is what s is then, and `behind` the place behind them
+abbrev pub Puts : List ℕ → ℕ → List ℕ → List ℕ → ℕ → Type 0
+Puts s at xs t behind = (t ≡ splice s at xs) × (behind ≡ at + length xs)
+
+-- s with the pieces ps written from `at` on, one after the other, is u, and they end at `behind`; what each call ensures is one step, in the
+-- order of the calls
 infixr 4 ◌then◌
-pub data Run : List ℕ → ℕ → List (List ℕ) → List ℕ → Type 0 where
-  done : {s : List ℕ} {at : ℕ} → Run s at [] s
-  ◌then◌ : {s t u p : List ℕ} {at : ℕ} {ps : List (List ℕ)} → t ≡ splice s at p → Run t (at + length p) ps u → Run s at (p ∷ ps) u
+pub data Run : List ℕ → ℕ → List (List ℕ) → List ℕ → ℕ → Type 0 where
+  done : {s : List ℕ} {at : ℕ} → Run s at [] s at
+  ◌then◌ : {s t u p : List ℕ} {at next behind : ℕ} {ps : List (List ℕ)} → Puts s at p t next → Run t next ps u behind → Run s at (p ∷ ps) u behind
 
-in_turn : {s u : List ℕ} {at : ℕ} {ps : List (List ℕ)} → Run s at ps u → u ≡ run s at ps
-in_turn done = refl
-in_turn (◌then◌ {p = p} {at = at} {ps = ps} e r) = in_turn r ∙ ap (λ (s : List ℕ). run s (at + length p) ps) e
+in_turn : {s u : List ℕ} {at behind : ℕ} {ps : List (List ℕ)} → Run s at ps u behind → at + length (joined ps) ≤ length s → Puts s at (joined ps) u behind
+in_turn {s = s} {at = at} done h = (splice_nothing s at, omega arith)
+in_turn {s = s} {at = at} (◌then◌ {t = t} {p = p} {next = next} {ps = ps} e r) h =
+    let l : length (p ++ joined ps) ≡ length p + length (joined ps) = length-append p (joined ps) in
+    let k : length (splice s at p) ≡ length s = length_splice s at p (omega arith) in
+    let w = in_turn r (rw (e.0, e.1) (omega arith)) in
+    (w.0 ∙ rw (e.0, e.1) (splice_splice s at (length p) p (joined ps) refl (omega arith)), omega (arith, w.1, e.1))
 
-pub written : {s u xs : List ℕ} {at : ℕ} {ps : List (List ℕ)} → Run s at ps u → joined ps ≡ xs → at + length xs ≤ length s
-    → u ≡ splice s at xs
-written {s = s} {at = at} {ps = ps} r e h = in_turn r ∙ run_splice ps s at (rw e h) ∙ ap (splice s at) e
+pub written : {s u xs : List ℕ} {at behind : ℕ} {ps : List (List ℕ)} → Run s at ps u behind → joined ps ≡ xs → at + length xs ≤ length s
+    → Puts s at xs u behind
+written {s = s} {u = u} {at = at} {behind = behind} r e h = rw e at (in_turn r (rw e h))
 
--- the run of two pieces
-pub two_written : (s t u p q : List ℕ) (at : ℕ) → t ≡ splice s at p → u ≡ splice t (at + length p) q → at + length (joined (p ∷ q ∷ [])) ≤ length s
-    → u ≡ splice s at (joined (p ∷ q ∷ []))
-two_written s t u p q at e f = written (e then f then done) refl
+-- a piece of k octets, and a number of n behind it
+pub number_behind : (s t u p : List ℕ) (at k n x next behind : ℕ) → length p ≡ k
+    → (t ≡ splice s at p) × (next ≡ at + k) → (u ≡ splice t next (octets n x)) × (behind ≡ next + n) → at + k + n ≤ length s
+    → (u ≡ splice s at (joined (p ∷ octets n x ∷ []))) × (behind ≡ at + k + n)
+number_behind s t u p at k n x next behind l e f h =
+    let o = length_octets n x in
+    let j = length-append p (octets n x ++ []) in
+    let i = length-append (octets n x) [] in
+    let w : Puts s at (joined (p ∷ octets n x ∷ [])) u behind = in_turn ((e.0, omega (arith, e.1)) then (f.0, omega (arith, f.1)) then done) (omega arith) in
+    (w.0, omega (arith, e.1, f.1))

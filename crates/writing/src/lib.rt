@@ -5,29 +5,15 @@ ghost use Rattle.std.specs.Prelude.{◌≡◌, ◌+◌, ◌<◌, ◌≤◌, leng
 ghost use Rattle.octets.specs.Octets.{octets, splice, joined};
 ghost use Rattle.block.specs.Written.{head};
 ghost use Rattle.writing.specs.Fields.{cid_octets, membership_octets, wrapper_octets, parameters_octets, address_octets, join_octets, fields_of};
-ghost use Rattle.writing.specs.Writing.{type_of, form_of, carried_of};
+ghost use Rattle.writing.specs.Writing.{type_of, vector_of, address_of, contents_of};
 ghost use Rattle.writing.specs.Allowed.{WriteMessageAllows};
 
+use counter::Reliable;
 use message::{
     Address, Cid, Join, MOST_CONTENTS, Membership, Message, Parameters, Wrapper, length_of,
 };
-use octets::{copy_into, put_u8, put_u16, put_u32, put_u64};
-
-// Where the table of data lengths has a message: its vector and the type of its address.
-#[derive(Clone, Copy)]
-pub struct Form {
-    pub vector: u8,
-    pub address: u8,
-}
-
-// What writing answers: how many octets were written, or a refusal: `NoForm` is 4, `NoRoom` is 1 and `ContentsOver` is 7.
-#[derive(Clone, Copy)]
-pub enum Wrote {
-    Octets(usize),
-    NoForm,
-    NoRoom,
-    ContentsOver,
-}
+use octets::{Field, copy_into};
+use refusal::Refusal;
 
 fn type_of(address: Address) -> u8
     ensures { result ≡ type_of address }
@@ -39,248 +25,193 @@ fn type_of(address: Address) -> u8
     }
 }
 
-fn plain(vector: u8) -> Form
-    ensures { (result.vector ≡ vector) × (result.address ≡ 0) }
-{
-    Form {
-        vector,
-        address: message::ADDRESS_NULL,
-    }
-}
-
-fn form_of(m: Message) -> Form
-    ensures { result ≡ form_of m }
+#[tactic(auto, unfolding(crate::specs::Writing::vector_of))]
+fn vector_of(m: Message) -> u8
+    ensures { result ≡ vector_of m }
 {
     match m {
-        Message::ReliableWrapper(_) => plain(message::RELIABLE_WRAPPER),
-        Message::UnreliableWrapper(_) => plain(message::UNRELIABLE_WRAPPER),
-        Message::Join(j) => {
-            let address = j.address;
-            Form {
-                vector: message::JOIN,
-                address: type_of(address),
-            }
-        }
-        Message::JoinRefuse {
-            member: _,
-            reason: _,
-        } => plain(message::JOIN_REFUSE),
-        Message::JoinAccept {
-            member: _,
-            reciprocal: _,
-        } => plain(message::JOIN_ACCEPT),
-        Message::Leaving {
-            member: _,
-            reason: _,
-        } => plain(message::LEAVING),
-        Message::Ack(_) => plain(message::ACK),
-        Message::Nak {
-            member: _,
-            first: _,
-            last: _,
-        } => plain(message::NAK),
-        Message::GetSessions(_) => plain(message::GET_SESSIONS),
+        Message::ReliableWrapper(_) => message::RELIABLE_WRAPPER,
+        Message::UnreliableWrapper(_) => message::UNRELIABLE_WRAPPER,
+        Message::Join(_) => message::JOIN,
+        Message::JoinRefuse { .. } => message::JOIN_REFUSE,
+        Message::JoinAccept { .. } => message::JOIN_ACCEPT,
+        Message::Leaving { .. } => message::LEAVING,
+        Message::Ack(_) => message::ACK,
+        Message::Nak { .. } => message::NAK,
+        Message::GetSessions(_) => message::GET_SESSIONS,
     }
 }
 
-fn put_cid(room: &mut [u8], at: usize, c: Cid)
+// The type of a message's address; one that has no address counts as one with a null address.
+#[tactic(auto, unfolding(crate::specs::Writing::address_of))]
+fn address_of(m: Message) -> u8
+    ensures { result ≡ address_of m }
+{
+    match m {
+        Message::Join(j) => type_of(j.address),
+        _ => message::ADDRESS_NULL,
+    }
+}
+
+fn put_cid(room: &mut [u8], at: usize, c: Cid) -> usize
     requires { at + 16 ≤ length room.old }
-    ensures { room.new ≡ splice room.old at (cid_octets c) }
+    ensures { (room.new ≡ splice room.old at (cid_octets c)) × (result ≡ at + 16) }
 {
-    put_u64(room, at, c.high);
-    put_u64(room, at + 8, c.low);
+    let at = c.high.put(room, at);
+    c.low.put(room, at)
 }
 
-fn put_membership(room: &mut [u8], at: usize, m: Membership)
+fn put_membership(room: &mut [u8], at: usize, m: Membership) -> usize
     requires { at + 24 ≤ length room.old }
-    ensures { room.new ≡ splice room.old at (membership_octets m) }
+    ensures { (room.new ≡ splice room.old at (membership_octets m)) × (result ≡ at + 24) }
 {
-    let leader = m.leader;
-    put_cid(room, at, leader);
-    let a = at + 16;
-    put_u16(room, a, m.channel);
-    let b = a + 2;
-    put_u16(room, b, m.mid);
-    let c = b + 2;
-    put_u32(room, c, m.reliable.0);
+    let at = put_cid(room, at, m.leader);
+    let at = m.channel.put(room, at);
+    let at = m.mid.put(room, at);
+    m.reliable.0.put(room, at)
 }
 
-fn put_wrapper(room: &mut [u8], at: usize, w: Wrapper)
+fn put_wrapper(room: &mut [u8], at: usize, w: Wrapper) -> usize
     requires { at + 20 ≤ length room.old }
-    ensures { room.new ≡ splice room.old at (wrapper_octets w) }
+    ensures { (room.new ≡ splice room.old at (wrapper_octets w)) × (result ≡ at + 20) }
 {
-    put_u16(room, at, w.channel);
-    let a = at + 2;
-    put_u32(room, a, w.total.0);
-    let b = a + 4;
-    put_u32(room, b, w.reliable.0);
-    let c = b + 4;
-    put_u32(room, c, w.oldest.0);
-    let d = c + 4;
-    put_u16(room, d, w.first);
-    let e = d + 2;
-    put_u16(room, e, w.last);
-    let f = e + 2;
-    put_u16(room, f, w.threshold);
+    let at = w.channel.put(room, at);
+    let at = w.total.0.put(room, at);
+    let at = w.reliable.0.put(room, at);
+    let at = w.oldest.0.put(room, at);
+    let at = w.first.put(room, at);
+    let at = w.last.put(room, at);
+    w.threshold.put(room, at)
 }
 
-fn put_parameters(room: &mut [u8], at: usize, p: Parameters)
+fn put_parameters(room: &mut [u8], at: usize, p: Parameters) -> usize
     requires { at + 9 ≤ length room.old }
-    ensures { room.new ≡ splice room.old at (parameters_octets p) }
+    ensures { (room.new ≡ splice room.old at (parameters_octets p)) × (result ≡ at + 9) }
 {
-    put_u8(room, at, p.expiry);
-    let a = at + 1;
-    put_u8(room, a, p.flags);
-    let b = a + 1;
-    put_u16(room, b, p.holdoff);
-    let c = b + 2;
-    put_u16(room, c, p.modulus);
-    let d = c + 2;
-    put_u16(room, d, p.maxwait);
-    let e = d + 2;
-    put_u8(room, e, p.adhoc);
+    let at = p.expiry.put(room, at);
+    let at = p.flags.put(room, at);
+    let at = p.holdoff.put(room, at);
+    let at = p.modulus.put(room, at);
+    let at = p.maxwait.put(room, at);
+    p.adhoc.put(room, at)
 }
 
 // An address and what follows it. One with no written form is written as nothing.
-fn put_address(room: &mut [u8], at: usize, address: Address)
+#[tactic(auto, using(crate::proofs::Forms::address_lengths))]
+fn put_address(room: &mut [u8], at: usize, address: Address) -> usize
     requires { at + length (address_octets address) ≤ length room.old }
-    ensures { room.new ≡ splice room.old at (address_octets address) }
+    ensures { (room.new ≡ splice room.old at (address_octets address)) × (result ≡ at + length (address_octets address)) }
 {
     match address {
         Address::Null(p) => {
-            put_u8(room, at, message::ADDRESS_NULL);
-            put_parameters(room, at + 1, p);
+            let at = message::ADDRESS_NULL.put(room, at);
+            put_parameters(room, at, p)
         }
         Address::Ipv4(e, p) => {
-            put_u8(room, at, message::ADDRESS_IPV4);
-            let a = at + 1;
-            put_u16(room, a, e.port);
-            let b = a + 2;
-            put_u32(room, b, e.host);
-            let c = b + 4;
-            put_parameters(room, c, p);
+            let at = message::ADDRESS_IPV4.put(room, at);
+            let at = e.port.put(room, at);
+            let at = e.host.put(room, at);
+            put_parameters(room, at, p)
         }
-        Address::Other(_) => {}
+        Address::Other(_) => at,
     }
 }
 
-fn put_join(room: &mut [u8], at: usize, j: Join)
+#[tactic(auto, using(crate::proofs::Forms::join_length))]
+fn put_join(room: &mut [u8], at: usize, j: Join) -> usize
     requires { at + length (join_octets j) ≤ length room.old }
-    ensures { room.new ≡ splice room.old at (join_octets j) }
+    ensures { (room.new ≡ splice room.old at (join_octets j)) × (result ≡ at + length (join_octets j)) }
 {
-    let cid = j.cid;
-    put_cid(room, at, cid);
-    let a = at + 16;
-    put_u16(room, a, j.mid);
-    let b = a + 2;
-    put_u16(room, b, j.channel);
-    let c = b + 2;
-    put_u16(room, c, j.reciprocal);
-    let d = c + 2;
-    put_u32(room, d, j.total.0);
-    let e = d + 4;
-    put_u32(room, e, j.reliable.0);
-    let f = e + 4;
-    let address = j.address;
-    put_address(room, f, address);
+    let at = put_cid(room, at, j.cid);
+    let at = j.mid.put(room, at);
+    let at = j.channel.put(room, at);
+    let at = j.reciprocal.put(room, at);
+    let at = j.total.0.put(room, at);
+    let at = j.reliable.0.put(room, at);
+    put_address(room, at, j.address)
 }
 
-// The reason with which a member refuses a Join or leaves.
-fn put_reason(room: &mut [u8], at: usize, m: Membership, reason: u8)
-    requires { at + 25 ≤ length room.old }
-    ensures { room.new ≡ splice room.old at (joined (membership_octets m ∷ octets 1 reason ∷ [])) }
+// A membership and the one field that follows it: the reason of a Join Refuse or a Leaving, or the reciprocal of a Join Accept.
+fn put_member<F: Field>(room: &mut [u8], at: usize, m: Membership, field: F) -> usize
+    requires { at + 24 + F.width ≤ length room.old }
+    ensures { (room.new ≡ splice room.old at (joined (membership_octets m ∷ octets F.width (F.value field) ∷ []))) × (result ≡ at + 24 + F.width) }
 {
-    put_membership(room, at, m);
-    put_u8(room, at + 24, reason);
+    let at = put_membership(room, at, m);
+    field.put(room, at)
 }
 
-fn put_accept(room: &mut [u8], at: usize, m: Membership, reciprocal: u16)
-    requires { at + 26 ≤ length room.old }
-    ensures { room.new ≡ splice room.old at (joined (membership_octets m ∷ octets 2 reciprocal ∷ [])) }
-{
-    put_membership(room, at, m);
-    put_u16(room, at + 24, reciprocal);
-}
-
-fn put_nak(room: &mut [u8], at: usize, m: Membership, first: u32, last: u32)
+fn put_nak(room: &mut [u8], at: usize, m: Membership, first: Reliable, last: Reliable) -> usize
     requires { at + 32 ≤ length room.old }
-    ensures { room.new ≡ splice room.old at (joined (membership_octets m ∷ octets 4 first ∷ octets 4 last ∷ [])) }
+    ensures { (room.new ≡ splice room.old at (joined (membership_octets m ∷ octets 4 first.0 ∷ octets 4 last.0 ∷ []))) × (result ≡ at + 32) }
 {
-    put_membership(room, at, m);
-    let a = at + 24;
-    put_u32(room, a, first);
-    let b = a + 4;
-    put_u32(room, b, last);
+    let at = put_membership(room, at, m);
+    let at = first.0.put(room, at);
+    last.0.put(room, at)
 }
 
 // A message's own fields; contents are not among them.
 #[inline(always)]
-fn put_fields(room: &mut [u8], at: usize, m: Message)
+#[tactic(auto, using(crate::proofs::Forms::fields_lengths), unfolding(crate::specs::Fields::fields_of))]
+fn put_fields(room: &mut [u8], at: usize, m: Message) -> usize
     requires { at + length (fields_of m) ≤ length room.old }
-    ensures { room.new ≡ splice room.old at (fields_of m) }
+    ensures { (room.new ≡ splice room.old at (fields_of m)) × (result ≡ at + length (fields_of m)) }
 {
     match m {
         Message::ReliableWrapper(w) => put_wrapper(room, at, w),
         Message::UnreliableWrapper(w) => put_wrapper(room, at, w),
         Message::Join(j) => put_join(room, at, j),
-        Message::JoinRefuse { member, reason } => put_reason(room, at, member, reason),
-        Message::JoinAccept { member, reciprocal } => put_accept(room, at, member, reciprocal),
-        Message::Leaving { member, reason } => put_reason(room, at, member, reason),
-        Message::Ack(r) => put_u32(room, at, r.0),
+        Message::JoinRefuse { member, reason } => put_member(room, at, member, reason),
+        Message::JoinAccept { member, reciprocal } => put_member(room, at, member, reciprocal),
+        Message::Leaving { member, reason } => put_member(room, at, member, reason),
+        Message::Ack(r) => r.0.put(room, at),
         Message::Nak {
             member,
             first,
             last,
-        } => put_nak(room, at, member, first.0, last.0),
+        } => put_nak(room, at, member, first, last),
         Message::GetSessions(c) => put_cid(room, at, c),
     }
 }
 
 // Flags, length and vector of a PDU of `size` octets.
-fn put_head(room: &mut [u8], size: usize, vector: u8)
+fn put_head(room: &mut [u8], size: usize, vector: u8) -> usize
     requires in_bounds { 3 ≤ length room.old }
     requires size_bound { size < 4096 }
-    ensures { room.new ≡ splice room.old 0 (head size vector) }
+    ensures { (room.new ≡ splice room.old 0 (head size vector)) × (result ≡ 3) }
 {
-    put_u16(room, 0, (28672 + size) as u16);
-    put_u8(room, 2, vector);
+    let at = ((28672 + size) as u16).put(room, 0);
+    vector.put(room, at)
 }
 
-// How many octets of the contents are written: a wrapper's are all, and of any other message none.
-fn carried(m: Message, len: usize) -> usize
-    ensures { result ≡ carried_of m len }
+// The contents that are written: a wrapper's are all, and of any other message none.
+#[tactic(auto, using(crate::proofs::Forms::wrapper_contents), unfolding(crate::specs::Writing::carried_of))]
+fn contents_of<'a>(m: Message, contents: &'a [u8]) -> &'a [u8]
+    ensures { result.now ≡ contents_of m contents.now }
 {
     match m {
-        Message::ReliableWrapper(_) => len,
-        Message::UnreliableWrapper(_) => len,
-        _ => 0,
+        Message::ReliableWrapper(_) | Message::UnreliableWrapper(_) => contents,
+        _ => b"",
     }
 }
 
 // Writes a message at the front of the room, with contents if it is a wrapper. A refusal leaves the room as it was.
 #[inline(always)]
-pub fn write_message(m: Message, contents: &[u8], room: &mut [u8]) -> Wrote
+pub fn write_message(m: Message, contents: &[u8], room: &mut [u8]) -> Result<usize, Refusal>
     ensures { WriteMessageAllows m contents.now room.old (record { answer = result; room = room.new }) }
 {
-    let form = form_of(m);
-    let len = length_of(form.vector, form.address);
-    if len == 0 {
-        return Wrote::NoForm;
-    }
-    let more = carried(m, contents.len());
+    let vector = vector_of(m);
+    let len = length_of(vector, address_of(m)).ok_or(Refusal::NoForm)?;
+    let contents = contents_of(m, contents);
     let end = 3 + len;
-    if room.len() < end {
-        return Wrote::NoRoom;
+    if room.len() < end || room.len() - end < contents.len() {
+        return Err(Refusal::WrongSize);
     }
-    if room.len() - end < more {
-        return Wrote::NoRoom;
+    if MOST_CONTENTS < contents.len() {
+        return Err(Refusal::ContentsOver);
     }
-    if MOST_CONTENTS < more {
-        return Wrote::ContentsOver;
-    }
-    let size = end + more;
-    put_head(room, size, form.vector);
-    put_fields(room, 3, m);
-    copy_into(room, end, &contents[0..more]);
-    Wrote::Octets(size)
+    let size = end + contents.len();
+    let at = put_head(room, size, vector);
+    let at = put_fields(room, at, m);
+    copy_into(room, at, contents);
+    Ok(size)
 }

@@ -1,5 +1,5 @@
 -- It asks the five clauses of a malformed PDU in an order in which each length octet is there when it is read.
-use Rattle.std.proofs.Common.{arith}
+use Rattle.std.proofs.Common.{arith, refl}
 use Rattle.block.proofs.OnePdu.{pdus, whole}
 use Rattle.block.proofs.pdu_at.Goals as goal
 
@@ -21,7 +21,7 @@ returns-then-left_over c = (search pdus, tt)
 pub returns : goal.returns
 returns c = (
   whole _ _ _
-      c.u8_at-b.ensures.0
+      refl
       c.head_size-head.ensures.0
       c.size_at-size.ensures.0
       c.fields_of-own.ensures.0

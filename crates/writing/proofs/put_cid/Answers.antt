@@ -2,9 +2,15 @@
 use native.Mathlib.Omega.{arith}
 use Rattle.octets.specs.Octets.{octets}
 use Rattle.writing.specs.Fields.{cid_octets}
-use Rattle.writing.proofs.Runs.{two_written}
+use Rattle.writing.proofs.Runs.{◌then◌, done, written}
 use Rattle.writing.proofs.put_cid.Goals as goal
 
 pub returns : goal.returns
 unfolding octets cid_octets
-returns c = two_written _ _ _ _ _ _ c.put_u64.ensures c.put_u64-2.ensures (omega arith)
+returns c =
+    written
+    (c.put-at.ensures
+    then c.put.ensures
+    then done)
+    (search)
+    (omega arith)

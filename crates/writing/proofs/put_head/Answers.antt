@@ -1,4 +1,4 @@
--- `writing::put_head` meets its contract: its two writes are one run. Assumes nothing.
+-- `writing::put_head` meets its contract: its writes are one run. Assumes nothing.
 use native.Mathlib.Omega.{arith}
 use Rattle.octets.specs.Octets.{octets}
 use Rattle.writing.proofs.Runs.{◌then◌, done, written}
@@ -8,8 +8,8 @@ pub returns : goal.returns
 unfolding octets
 returns c =
     written
-    (c.put_u16.ensures
-    then c.put_u8.ensures
+    (c.put-at.ensures
+    then c.put.ensures
     then done)
     (search)
     (omega arith)

@@ -9,10 +9,10 @@ pub returns : goal.returns
 unfolding octets cid_octets membership_octets
 returns c =
     written
-    (c.put_cid.ensures
-    then c.put_u16.ensures
-    then c.put_u16-2.ensures
-    then c.put_u32.ensures
+    (c.put_cid-at.ensures
+    then c.put-at.ensures
+    then c.put-at-2.ensures
+    then c.put.ensures
     then done)
     (search)
     (omega arith)

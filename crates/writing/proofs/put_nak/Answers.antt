@@ -9,9 +9,9 @@ pub returns : goal.returns
 unfolding octets cid_octets membership_octets
 returns c =
     written
-    (c.put_membership.ensures
-    then c.put_u32.ensures
-    then c.put_u32-2.ensures
+    (c.put_membership-at.ensures
+    then c.put-at.ensures
+    then c.put.ensures
     then done)
     (search)
     (omega arith)

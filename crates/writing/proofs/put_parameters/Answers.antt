@@ -9,12 +9,12 @@ pub returns : goal.returns
 unfolding octets parameters_octets
 returns c =
     written
-    (c.put_u8.ensures
-    then c.put_u8-2.ensures
-    then c.put_u16.ensures
-    then c.put_u16-2.ensures
-    then c.put_u16-3.ensures
-    then c.put_u8-3.ensures
+    (c.put-at.ensures
+    then c.put-at-2.ensures
+    then c.put-at-3.ensures
+    then c.put-at-4.ensures
+    then c.put-at-5.ensures
+    then c.put.ensures
     then done)
     (search)
     (omega arith)

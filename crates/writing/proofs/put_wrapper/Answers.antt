@@ -9,13 +9,13 @@ pub returns : goal.returns
 unfolding octets wrapper_octets
 returns c =
     written
-    (c.put_u16.ensures
-    then c.put_u32.ensures
-    then c.put_u32-2.ensures
-    then c.put_u32-3.ensures
-    then c.put_u16-2.ensures
-    then c.put_u16-3.ensures
-    then c.put_u16-4.ensures
+    (c.put-at.ensures
+    then c.put-at-2.ensures
+    then c.put-at-3.ensures
+    then c.put-at-4.ensures
+    then c.put-at-5.ensures
+    then c.put-at-6.ensures
+    then c.put.ensures
     then done)
     (search)
     (omega arith)

@@ -1,7 +1,0 @@
--- The number in both halves is the number of all octets.
-use Rattle.std.proofs.Common.{arith}
-use Rattle.octets.proofs.Numbers.{number_halves}
-use Rattle.octets.proofs.u64_at.Goals as goal
-
-pub returns : goal.returns
-returns c = cc (number_halves c.args.s.now c.args.at 4 4 (omega arith))
