@@ -12,7 +12,6 @@ use joining::Decision;
 use message::{Cid, Join, Message};
 use record::Terms;
 use wrapper::Reply;
-use writing::Wrote;
 
 // The octets of a reply room.
 pub const ROOM: usize = 64;
@@ -22,10 +21,7 @@ fn put_message(room: &mut [u8], m: Message) -> usize
     requires { (has_form m ≡ true) × (length (sent_of m) ≤ length room.old) }
     ensures { Put (sent_of m) result room.old room.new }
 {
-    let Wrote::Octets(n) = writing::write_message(m, b"", room) else {
-        return 0;
-    };
-    n
+    writing::write_message(m, b"", room).unwrap()
 }
 
 // A Leaving.
@@ -85,7 +81,10 @@ pub fn put_join_reply(
     ensures { Put (join_reply_of owner j reciprocal decision) result room.old room.new }
 {
     match decision {
-        Decision::Refuse(reason) => put_message(room, joining::join_refuse_of(owner, j, reason.into())),
+        Decision::Refuse(reason) => put_message(
+            room,
+            joining::join_refuse_of(owner, j, reason.into()),
+        ),
         Decision::Again {
             reliable,
             reciprocal: kept,
