@@ -1,8 +1,5 @@
 -- What the proofs of `member` share.
-pub mod Joins
-pub mod Sizes
-pub mod Wrapping
-pub mod Messaging
+pub mod Lent
 pub mod Lists
-pub mod Passing
 pub mod Departing
+pub mod Passing

@@ -1,0 +1,15 @@
+-- A call that ends by `ok_or(why)?`, and pieces that are lent as slices and taken as arrays of their sizes. Assumes nothing.
+use Prim.Native.Nat.{ℕ}
+use mathlib.Core.List.{List}
+use mathlib.Core.Path.{◌≡◌}
+use lib.ListN.{length}
+use Rattle.std.specs.Prelude.{Option, Some, None, Result, Ok, Err, MatchOption}
+use Rattle.std.specs.Option.{ok_or}
+use Rattle.std.specs.Array.{IsWholeChunk}
+use Rattle.std.specs.Result.{IsErrAnd}
+
+-- what is answered is why
+pub answers_why : {T U E : Type 0} (o : Option T) (why e : E) (r : Result U E) → o ≡ None → ◌≡◌ {A = Result T E} (Err e) (ok_or o why)
+    → IsErrAnd r (λ y. y ≡ e) → r ≡ Err why
+answers_why o why e (Ok x) n v h = absurd h
+answers_why {T} o why e (Err y) n v h = let w : ◌≡◌ {A = Result T _} (Err e) (Err why) = rw n at v in cc
