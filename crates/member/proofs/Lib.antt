@@ -1,5 +1,8 @@
 -- What the proofs of `member` share.
 pub mod Lent
 pub mod Lists
-pub mod Departing
+pub mod Joins
+pub mod Wrapping
+pub mod Messaging
 pub mod Passing
+pub mod Departing

@@ -10,20 +10,19 @@ ghost use Rattle.member.specs.Elapsing.{ElapsedAllows};
 ghost use Rattle.member.specs.Leaving.{LeaveAllows};
 
 use carry::Delivery;
+pub use carry::{DELIVER, HELD};
 use gap::Event;
 use joining::Decision;
 use record::Record;
 use refusal::Refusal;
 use wrapper::{Fate, Reply};
 
-// The sizes of what is lent (01, "Room").
-pub const HELD: usize = 46528;
-
-pub const DELIVER: usize = 7270;
-
-pub const REPLY: usize = 64;
+// The sizes of what is lent (01, "Room"), beside `carry`'s.
+pub const REPLY: usize = sending::ROOM;
 
 pub const CELLS: usize = 512;
+
+const CID: usize = 16;
 
 // The most that may pass in one call, in milliseconds.
 const LONGEST: u32 = 1000;
@@ -44,7 +43,8 @@ pub enum Given {
     },
 }
 
-// The answer of a message call. The first `count` of `deliveries` are what was delivered, in order; `reply` octets stand in the reply room.
+// The answer of a message call. The first `count` of `deliveries` are what was delivered, in order: an array with its count beside it, since the library
+// has no heap. `reply` octets stand in the reply room.
 #[derive(Clone, Copy)]
 pub struct Messaged {
     pub table: [Record; 8],
@@ -94,13 +94,13 @@ pub fn message(
     let held = held.as_mut_array().ok_or(Refusal::WrongSize)?;
     let deliver = deliver.as_mut_array().ok_or(Refusal::WrongSize)?;
     let reply = reply.as_mut_array().ok_or(Refusal::WrongSize)?;
-    let sender = sender.as_array().ok_or(Refusal::WrongSize)?;
-    let ours = ours.as_array().ok_or(Refusal::WrongSize)?;
+    let sender: &[u8; CID] = sender.as_array().ok_or(Refusal::WrongSize)?;
+    let ours: &[u8; CID] = ours.as_array().ok_or(Refusal::WrongSize)?;
     if !table::is_formed(table) {
         return Err(Refusal::WrongTable);
     }
-    let from = asking::cid_of(sender);
-    let own = asking::cid_of(ours);
+    let from = message::cid_at(sender, 0);
+    let own = message::cid_at(ours, 0);
     messages::take_message(
         table, held, deliver, reply, from, own, vector, body, reciprocal,
     )
@@ -131,9 +131,9 @@ pub fn leave(
     ensures { LeaveAllows table reply.old owner.now channel reason (record { answer = result; reply = reply.new }) }
 {
     let reply = reply.as_mut_array().ok_or(Refusal::WrongSize)?;
-    let owner = owner.as_array().ok_or(Refusal::WrongSize)?;
+    let owner: &[u8; CID] = owner.as_array().ok_or(Refusal::WrongSize)?;
     if !table::is_formed(table) {
         return Err(Refusal::WrongTable);
     }
-    leaving::take_leave(table, reply, asking::cid_of(owner), channel, reason)
+    leaving::take_leave(table, reply, message::cid_at(owner, 0), channel, reason)
 }

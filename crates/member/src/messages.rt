@@ -66,19 +66,22 @@ fn take_join(
     let known = table::find(table, sender, j.channel);
     let free = table::find_free(table);
     let decision = joining::decide(j, existing_at(table, known), reciprocal, free.is_some());
+    let after = table_after(table, sender, j, reciprocal, decision, free);
+    let deliveries = carry::no_deliveries().each;
     Messaged {
-        table: table_after(table, sender, j, reciprocal, decision, free),
+        table: after,
         given: Given::Joined {
             at: joined_at(decision, known, free),
             decision,
         },
-        deliveries: carry::no_deliveries().each,
+        deliveries,
         count: 0,
         reply: sending::put_join_reply(reply, sender, j, reciprocal, decision),
     }
 }
 
-// The plan of the record `at`, carried out.
+// The plan of the record `at`, carried out. The three lent pieces stay parameters: their sizes are their types', and a struct that holds three `&mut` would
+// owe a clause for each that it keeps its reference.
 fn carried(
     table: [Record; 8],
     held: &mut [u8; HELD],
@@ -96,6 +99,7 @@ fn carried(
     let all = carry::carry_out(held, deliver, at, w, plan, contents);
     let mut after = table;
     after[at] = plan.after;
+    let deliveries = all.each;
     Messaged {
         table: after,
         given: Given::Wrapped {
@@ -104,7 +108,7 @@ fn carried(
             thrown: plan.thrown,
             reply: plan.reply,
         },
-        deliveries: all.each,
+        deliveries,
         count: all.count,
         reply: sending::put_reply(reply, plan.after.terms, plan.reply),
     }
@@ -145,7 +149,8 @@ pub fn take_message(
     ensures { MessageEndsAs (asked_outcome table held.old sender reciprocal (contents body.now) (asked_of table sender ours vector body.now)) deliver.old reply.old
         (record { answer = result; held = held.new; deliver = deliver.new; reply = reply.new }) }
 {
-    match asking::asks(table, sender, ours, vector, body)? {
+    let asked = asking::asks(table, sender, ours, vector, body)?;
+    match asked {
         Asked::Join(j) => Ok(take_join(table, reply, sender, j, reciprocal)),
         Asked::Wrapper { at, arrived } => {
             take_wrapper(table, held, deliver, reply, at, arrived, &body[FIELDS..])

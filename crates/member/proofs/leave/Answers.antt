@@ -27,4 +27,4 @@ pub returns : goal.returns
 returns c =
     let room = rw c.in_ok-reply.ensures.ok_part at c.as_mut_array.ensures.cases in
     let own = rw c.in_ok-owner.ensures.ok_part at c.as_array.ensures.cases in
-    leave_asked _ (search rules) _ _ _ _ _ _ room _ own _ c.is_formed.ensures (search rules) _ _ c.cid_of.ensures c.take_leave.ensures
+    leave_asked _ (search rules) _ _ _ _ _ _ room _ own _ c.is_formed.ensures (search rules) _ _ c.cid_at.ensures c.take_leave.ensures
