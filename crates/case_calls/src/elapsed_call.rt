@@ -1,5 +1,4 @@
 // An elapsed call: what each record sends as time passes.
-use case_forms::records::write_changes;
 use case_rooms::lent::{CELL, Room};
 use case_rooms::setting::Setting;
 use case_rooms::{Fault, Ran};
@@ -27,16 +26,16 @@ pub fn elapsed_step(setting: &mut Setting, ms: u32) -> Result<Ran, AllocError> {
     let mut room = Room::new(setting.alloc, setting.lent.cells)?;
     let passed = member::elapsed(setting.table, room.lend(), ms);
     let mut said = String::new(setting.alloc);
-    if passed.number != 0 {
-        writeln!(said, "= refused {}", passed.number)?;
-    } else {
-        said.push_str("= taken\n")?;
-        for (i, cell) in passed.cells.iter().enumerate() {
-            say_cell(&mut said, &mut room, i, *cell)?;
+    match passed.number {
+        0 => {
+            said.push_str("= taken\n")?;
+            for (i, cell) in passed.cells.iter().enumerate() {
+                say_cell(&mut said, &mut room, i, *cell)?;
+            }
+            setting.accept(&mut said, passed.table)?;
         }
+        number => writeln!(said, "= refused {number}")?,
     }
-    write_changes(&mut said, &setting.table, &passed.table)?;
-    setting.table = passed.table;
     let fault = room.first_changed().map(Fault::Cells);
     Ok(Ran { said, fault })
 }

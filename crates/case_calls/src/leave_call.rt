@@ -1,6 +1,5 @@
 // A leave call: the Leaving that it replies, and the record that it frees.
 use crate::say_reply;
-use case_forms::records::write_changes;
 use case_rooms::lent::Room;
 use case_rooms::setting::Setting;
 use case_rooms::{Fault, Ran};
@@ -15,14 +14,14 @@ pub fn leave_step(
     let mut reply = Room::new(setting.alloc, setting.lent.reply)?;
     let left = member::leave(setting.table, reply.lend(), owner, channel, reason);
     let mut said = String::new(setting.alloc);
-    if left.number != 0 {
-        writeln!(said, "= refused {}", left.number)?;
-    } else {
-        said.push_str("= taken\n")?;
-        say_reply(&mut said, &mut reply, left.reply)?;
+    match left.number {
+        0 => {
+            said.push_str("= taken\n")?;
+            say_reply(&mut said, &mut reply, left.reply)?;
+            setting.accept(&mut said, left.table)?;
+        }
+        number => writeln!(said, "= refused {number}")?,
     }
-    write_changes(&mut said, &setting.table, &left.table)?;
-    setting.table = left.table;
     let fault = reply.first_changed().map(Fault::Reply);
     Ok(Ran { said, fault })
 }

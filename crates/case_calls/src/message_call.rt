@@ -1,7 +1,6 @@
 // A message call: what it delivers, holds, throws out and replies, and the octets that it may write for that.
 use crate::say_reply;
 use carry::Delivery;
-use case_forms::records::write_changes;
 use case_rooms::lent::{Held, PLACE, Room};
 use case_rooms::setting::Setting;
 use case_rooms::{Fault, Ran};
@@ -101,11 +100,12 @@ pub fn message_step(
     let mut said = String::new(setting.alloc);
     match sent.given {
         Given::Refused(number) => writeln!(said, "= refused {number}")?,
-        _ => rooms.say_taken(&mut said, &sent)?,
+        _ => {
+            rooms.say_taken(&mut said, &sent)?;
+            allow_held(&mut setting.held, &sent);
+            setting.accept(&mut said, sent.table)?;
+        }
     }
-    allow_held(&mut setting.held, &sent);
-    write_changes(&mut said, &setting.table, &sent.table)?;
-    setting.table = sent.table;
     let fault = setting
         .held
         .first_changed(held)
