@@ -87,7 +87,7 @@ pub struct Held {
     before: Vec<u8>,
 }
 
-// Where the octets of a place begin.
+// Where the octets of a place begin: there are eight records of four places.
 fn start_of(record: usize, place: usize) -> usize {
     (record % 8 * 4 + place % 4) * PLACE
 }
