@@ -1,6 +1,5 @@
 // An elapsed call: what each record sends as time passes.
 use case_forms::Spelled;
-use case_forms::records::write_changes;
 use case_rooms::lent::{CELL, Room};
 use case_rooms::setting::Setting;
 use case_rooms::{Fault, Ran};
@@ -28,15 +27,14 @@ pub fn elapsed_step(setting: &mut Setting, ms: u32) -> Result<Ran, AllocError> {
     let mut room = Room::new(setting.alloc, setting.lent.cells)?;
     let mut said = String::new(setting.alloc);
     match member::elapsed(setting.table, room.lend(), ms) {
-        Err(refusal) => writeln!(said, "= {}", Spelled(refusal))?,
         Ok(passed) => {
             said.push_str("= taken\n")?;
             for (i, cell) in passed.cells.iter().enumerate() {
                 say_cell(&mut said, &mut room, i, *cell)?;
             }
-            write_changes(&mut said, &setting.table, &passed.table)?;
-            setting.table = passed.table;
+            setting.accept(&mut said, passed.table)?;
         }
+        Err(refusal) => writeln!(said, "= {}", Spelled(refusal))?,
     }
     let fault = room.first_changed().map(Fault::Cells);
     Ok(Ran { said, fault })

@@ -1,7 +1,6 @@
 // A leave call: the Leaving that it replies, and the record that it frees.
 use crate::say_reply;
 use case_forms::Spelled;
-use case_forms::records::write_changes;
 use case_rooms::lent::Room;
 use case_rooms::setting::Setting;
 use case_rooms::{Fault, Ran};
@@ -16,13 +15,12 @@ pub fn leave_step(
     let mut reply = Room::new(setting.alloc, setting.lent.reply)?;
     let mut said = String::new(setting.alloc);
     match member::leave(setting.table, reply.lend(), owner, channel, reason) {
-        Err(refusal) => writeln!(said, "= {}", Spelled(refusal))?,
         Ok(left) => {
             said.push_str("= taken\n")?;
             say_reply(&mut said, &mut reply, left.reply)?;
-            write_changes(&mut said, &setting.table, &left.table)?;
-            setting.table = left.table;
+            setting.accept(&mut said, left.table)?;
         }
+        Err(refusal) => writeln!(said, "= {}", Spelled(refusal))?,
     }
     let fault = reply.first_changed().map(Fault::Reply);
     Ok(Ran { said, fault })

@@ -2,7 +2,6 @@
 use crate::say_reply;
 use carry::Delivery;
 use case_forms::Spelled;
-use case_forms::records::write_changes;
 use case_rooms::lent::{Held, PLACE, Room};
 use case_rooms::setting::Setting;
 use case_rooms::{Fault, Ran};
@@ -105,8 +104,7 @@ pub fn message_step(
         Ok(sent) => {
             rooms.say_taken(&mut said, &sent)?;
             allow_held(&mut setting.held, &sent);
-            write_changes(&mut said, &setting.table, &sent.table)?;
-            setting.table = sent.table;
+            setting.accept(&mut said, sent.table)?;
         }
     }
     let fault = setting

@@ -8,6 +8,7 @@ use message::Cid;
 use std::alloc::Global;
 use std::str;
 
+// A line, and which of its words are still to be read.
 #[derive(Drop)]
 pub struct Reader<'a> {
     pub alloc: Global,
@@ -15,7 +16,7 @@ pub struct Reader<'a> {
     words: Words<'a>,
 }
 
-// What one word says, by its type.
+// What a word or several say, by their type.
 pub trait Value: Sized {
     fn read(r: &mut Reader<'_>) -> Result<Self, Misread>;
 }
@@ -142,13 +143,13 @@ fn cid(octets: &[u8]) -> Option<Cid> {
 
 impl Value for u8 {
     fn read(r: &mut Reader<'_>) -> Result<u8, Misread> {
-        Ok(r.number(255)? as u8)
+        Ok(r.number(u8::MAX.into())? as u8)
     }
 }
 
 impl Value for u16 {
     fn read(r: &mut Reader<'_>) -> Result<u16, Misread> {
-        Ok(r.number(65535)? as u16)
+        Ok(r.number(u16::MAX.into())? as u16)
     }
 }
 

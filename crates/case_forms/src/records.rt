@@ -11,6 +11,13 @@ use std::fmt;
 
 // ---- reading
 
+const FREE_PLACE: Place = Place {
+    used: false,
+    total: Total(0),
+    reliable: Reliable(0),
+    len: 0,
+};
+
 impl Value for Gap {
     fn read(r: &mut Reader<'_>) -> Result<Gap, Misread> {
         let at = r.at();
@@ -28,13 +35,6 @@ impl Value for Gap {
         }
     }
 }
-
-const FREE_PLACE: Place = Place {
-    used: false,
-    total: Total(0),
-    reliable: Reliable(0),
-    len: 0,
-};
 
 // A used record. Its places are no part of its line: they are free.
 impl Value for Record {

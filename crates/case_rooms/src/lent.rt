@@ -87,29 +87,25 @@ pub struct Held {
     before: Vec<u8>,
 }
 
-// Where the octets of a place begin.
+// Where the octets of a place begin: there are eight records of four places.
 fn start_of(record: usize, place: usize) -> usize {
     (record % 8 * 4 + place % 4) * PLACE
 }
 
-fn copy_to(to: &mut [u8], from: usize, octets: &[u8]) {
-    if let Some(part) = to.get_mut(from..from.saturating_add(octets.len())) {
+// Copies octets to a place of a room, if they fit there.
+fn copy_to(room: &mut [u8], start: usize, octets: &[u8]) {
+    if let Some(part) = room.get_mut(start..start.saturating_add(octets.len())) {
         part.copy_from_slice(octets);
     }
 }
 
 impl Held {
+    // All are 0, and were.
     pub fn new(alloc: Global) -> Result<Held, AllocError> {
         Ok(Held {
             octets: vec![in alloc; 0; MOST]?,
             before: vec![in alloc; 0; MOST]?,
         })
-    }
-
-    // All are 0, and were.
-    pub fn clear(&mut self) {
-        self.octets.fill(0);
-        self.before.fill(0);
     }
 
     // The first n.

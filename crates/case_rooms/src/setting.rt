@@ -1,6 +1,7 @@
 // What the lines of a case set up for its steps.
 use crate::lent::{Held, Lent, RIGHT};
 use case_forms::lines::SetPlace;
+use case_forms::records::write_changes;
 use record::Record;
 use std::alloc::{AllocError, Global};
 use table::free_table;
@@ -16,6 +17,7 @@ pub struct Setting {
 }
 
 impl Setting {
+    // What a case starts with.
     pub fn new(alloc: Global) -> Result<Setting, AllocError> {
         Ok(Setting {
             alloc,
@@ -24,16 +26,6 @@ impl Setting {
             ours: vec![in alloc; 0; 16]?,
             lent: RIGHT,
         })
-    }
-
-    // All is as a case starts with it.
-    pub fn clear(&mut self) -> Result<(), AllocError> {
-        self.table = free_table();
-        self.held.clear();
-        self.ours.clear();
-        self.ours.resize(16, 0)?;
-        self.lent = RIGHT;
-        Ok(())
     }
 
     // Sets a record and marks it used. Its places stay.
@@ -61,5 +53,12 @@ impl Setting {
             *place = to.numbers;
         }
         self.held.store(to.record, to.place, to.contents.as_slice());
+    }
+
+    // Says each record that a call changed. Then its answer is the table.
+    pub fn accept(&mut self, said: &mut String, answer: [Record; 8]) -> Result<(), AllocError> {
+        write_changes(said, &self.table, &answer)?;
+        self.table = answer;
+        Ok(())
     }
 }

@@ -120,8 +120,12 @@ impl Report {
 
     // The case fails at this line, which is too long.
     pub fn fail_long(&mut self) -> io::Result<()> {
-        let most = b"a line of at most 200000 characters";
-        self.fail_with(self.line, most, b"a longer one")
+        self.fail(self.line)?;
+        writeln!(
+            self.output,
+            "     expected: a line of at most {LINE} characters"
+        )?;
+        writeln!(self.output, "     given:    a longer one")
     }
 
     // The case fails at a line, with what was expected there and what was given.

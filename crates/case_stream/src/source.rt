@@ -8,6 +8,7 @@ use std::{io, mem};
 const CHUNK: usize = 65536;
 
 // What a turn found: a line without its end, a piece of one that is too long, or the last piece of such a one.
+#[derive(Clone, Copy)]
 pub enum Turn<'a> {
     Line(&'a [u8]),
     Piece(&'a [u8]),

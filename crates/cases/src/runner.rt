@@ -16,7 +16,6 @@ use std::io::Write;
 
 #[derive(Drop)]
 pub struct Runner {
-    alloc: Global,
     report: Report,
     setting: Setting,
 }
@@ -25,7 +24,6 @@ impl Runner {
     // Lines before the first `case` are a case with no name, which starts as any other.
     pub fn new(alloc: Global, output: Output) -> Result<Runner, AllocError> {
         Ok(Runner {
-            alloc,
             report: Report::new(alloc, output),
             setting: Setting::new(alloc)?,
         })
@@ -33,20 +31,21 @@ impl Runner {
 
     // What one turn of the source found. Every line has a number, also one that is too long.
     pub fn take_turn(&mut self, turn: Turn<'_>) -> io::Result<()> {
+        if !matches!(turn, Turn::Piece(_)) {
+            self.report.count_line();
+        }
         match turn {
             Turn::Piece(piece) => self.report.output.pass_on(piece),
-            Turn::LongEnd(end) => {
-                self.report.count_line();
-                if self.report.begin_line(end)? {
-                    self.report.fail_long()?;
-                }
-                Ok(())
-            }
-            Turn::Line(line) => {
-                self.report.count_line();
-                self.take_line(line)
-            }
+            Turn::LongEnd(end) => self.take_long_line(end),
+            Turn::Line(line) => self.take_line(line),
         }
+    }
+
+    fn take_long_line(&mut self, end: &[u8]) -> io::Result<()> {
+        if self.report.begin_line(end)? {
+            self.report.fail_long()?;
+        }
+        Ok(())
     }
 
     fn take_line(&mut self, line: &[u8]) -> io::Result<()> {
@@ -62,7 +61,7 @@ impl Runner {
     fn open_case(&mut self, line: &[u8], name: &[u8]) -> io::Result<()> {
         self.report.close_case()?;
         self.report.open_case(name)?;
-        self.setting.clear()?;
+        self.setting = Setting::new(self.setting.alloc)?;
         self.report.output.keep(line)
     }
 
@@ -71,13 +70,13 @@ impl Runner {
         if !self.report.begin_line(line)? {
             return Ok(());
         }
-        match read_line(self.alloc, line) {
+        match read_line(self.setting.alloc, line) {
             Ok(Line::Ours(cid)) => self.setting.ours = cid,
             Ok(Line::Record(i, record)) => self.setting.set_record(i, record),
             Ok(Line::Free(i)) => self.setting.free(i),
             Ok(Line::Place(place)) => self.setting.set_place(&place),
             Ok(Line::Lend(piece, n)) => self.setting.lent.set(piece, n),
-            Ok(Line::Step(step)) => self.take_step(&step)?,
+            Ok(Line::Step(step)) => self.take_step(step)?,
             Err(Misread::At(at, wanted)) => self.report.fail_reading(line, at, wanted)?,
             Err(Misread::OutOfMemory(error)) => return Err(io::Error::from(error)),
         }
@@ -95,8 +94,8 @@ impl Runner {
     }
 
     // Runs a step. What was lent for it is spent.
-    fn take_step(&mut self, step: &Step) -> io::Result<()> {
-        if self.lacks_table(step) {
+    fn take_step(&mut self, step: Step) -> io::Result<()> {
+        if self.lacks_table(&step) {
             let reason = "a table of another number of records than 8 cannot be lent yet";
             return self.report.fail_for(reason);
         }
@@ -108,38 +107,29 @@ impl Runner {
         }
     }
 
-    fn run_step(&mut self, step: &Step) -> Result<Ran, AllocError> {
+    fn run_step(&mut self, step: Step) -> Result<Ran, AllocError> {
         let setting = &mut self.setting;
+        let alloc = setting.alloc;
         match step {
             Step::Message {
                 sender,
                 vector,
                 reciprocal,
                 data,
-            } => message_step(
-                setting,
-                sender.as_slice(),
-                *vector,
-                *reciprocal,
-                data.as_slice(),
-            ),
-            Step::Elapsed(ms) => elapsed_step(setting, *ms),
+            } => message_step(setting, &sender, vector, reciprocal, &data),
+            Step::Elapsed(ms) => elapsed_step(setting, ms),
             Step::Leave {
                 owner,
                 channel,
                 reason,
-            } => leave_step(setting, owner.as_slice(), *channel, *reason),
-            Step::Block { position, octets } => block_step(
-                self.alloc,
-                *position,
-                octets.as_slice(),
-            ),
-            Step::Read { vector, data } => read_step(self.alloc, *vector, data.as_slice()),
+            } => leave_step(setting, &owner, channel, reason),
+            Step::Block { position, octets } => block_step(alloc, position, &octets),
+            Step::Read { vector, data } => read_step(alloc, vector, &data),
             Step::Write {
                 room,
                 message,
                 contents,
-            } => write_step(self.alloc, *room, *message, contents.as_slice()),
+            } => write_step(alloc, room, message, &contents),
         }
     }
 
