@@ -44,6 +44,7 @@ fn put_welcome(room: &mut [u8; ROOM], owner: Cid, j: Join, reciprocal: u16) -> u
 }
 
 // What a wrapper's step replies.
+#[tactic(auto, using(octets::proofs::Writes::splice_nothing), unfolding(crate::specs::Sent::reply_of))]
 pub fn put_reply(room: &mut [u8; ROOM], terms: Terms, reply: Reply) -> usize
     ensures { Put (reply_of terms reply) result room.old room.new }
 {
@@ -55,6 +56,7 @@ pub fn put_reply(room: &mut [u8; ROOM], terms: Terms, reply: Reply) -> usize
 }
 
 // What a channel sends as time passes.
+#[tactic(auto, using(octets::proofs::Writes::splice_nothing), unfolding(crate::specs::Sent::event_of))]
 pub fn put_event(room: &mut [u8], terms: Terms, event: Event) -> usize
     requires { 64 ≤ length room.old }
     ensures { Put (event_of terms event) result room.old room.new }
@@ -72,6 +74,7 @@ pub fn put_event(room: &mut [u8], terms: Terms, event: Event) -> usize
 }
 
 // The reply to a Join.
+#[tactic(auto, unfolding(crate::specs::Sent::join_reply_of))]
 pub fn put_join_reply(
     room: &mut [u8; ROOM],
     owner: Cid,
