@@ -1,13 +1,15 @@
 -- How long a message's fields and its PDU are, and that the one table of data lengths says so: it has a row exactly for the messages with
 -- a written form. Assumes nothing.
-use Prim.Native.Nat.{ℕ, ◌+◌, ◌<◌, ◌≤◌}
+use Prim.Native.Nat.{ℕ, ◌+◌, ◌≤◌}
 use native.Mathlib.Omega.{arith}
-use mathlib.Core.Path.{◌≡◌, refl, ap}
-use mathlib.Core.Bool.{Bool, true, false}
+use mathlib.Core.Path.{◌≡◌, refl, sym, ap, ◌∙◌}
+use mathlib.Core.Bool.{Bool, true, false, cond}
 use mathlib.Core.List.{List, append-nil}
-use lib.ListN.{length, length-append}
-use lib.Seq.{length-take-le}
-use lib.Dec.{ltb, lit<}
+use lib.ListN.{length, take, length-append}
+use lib.Seq.{length-take-le, take-length}
+use lib.Dec.{ltb}
+use Rattle.std.specs.Prelude.{Some, None}
+use Rattle.std.proofs.lemmas.Option.{none-some}
 use Rattle.octets.specs.Octets.{octets}
 use Rattle.message.specs.Lengths.{length_of, look, join}
 use Rattle.message.specs.declared.Address.{Address}
@@ -68,40 +70,44 @@ ack_length r = refl
 pub nak_length : (m : Membership) (first last : Reliable) → length (fields_of (message.Nak m first last)) ≡ 32
 unfolding octets cid_octets membership_octets fields_of
 nak_length m first last = refl
+
 pub ruleset fields_lengths = (wrapper_length, cid_length, refuse_length, accept_length, leaving_length, ack_length, nak_length)
 
 -- ---- the table
 
--- what the table has for a message whose fields are so long: their length, or 0 if it has no written form
-abbrev pub Listed : Bool → ℕ → ℕ → Type 0
-Listed true len fields = (len ≡ fields) × (0 < len)
-Listed false len fields = len ≡ 0
-
-pub none_listed : (b : Bool) (len fields : ℕ) → Listed b len fields → len ≡ 0 → b ≡ false
-none_listed true len fields t z = absurd (omega arith)
-none_listed false len fields t z = refl
-
-pub one_listed : (b : Bool) (len fields : ℕ) → Listed b len fields → (len ≡ 0 → ⊥) → (b ≡ true) × (len ≡ fields)
-one_listed true len fields t n = (refl, t.0)
-one_listed false len fields t n = absurd (n t)
-
-join_listed : (a : Address) → Listed (ltb (type_of a) 2) (length_of join (type_of a)) (30 + length (address_octets a))
+join_listed : (a : Address) → length_of join (type_of a) ≡ cond (ltb (type_of a) 2) (Some (30 + length (address_octets a))) None
 unfolding octets parameters_octets address_octets length_of look
-join_listed (address.Null p) = (refl, lit< tt)
-join_listed (address.Ipv4 e p) = (refl, lit< tt)
+join_listed (address.Null p) = refl
+join_listed (address.Ipv4 e p) = refl
 join_listed (address.Other t) = refl
 
-pub listed : (m : Message) → Listed (has_form m) (length_of (vector_of m) (address_of m)) (length (fields_of m))
+-- it has the length of the fields of a message with a written form, and no row for any other
+pub listed : (m : Message) → length_of (vector_of m) (address_of m) ≡ cond (has_form m) (Some (length (fields_of m))) None
 unfolding octets cid_octets membership_octets wrapper_octets fields_of vector_of address_of has_form length_of look
-listed (message.ReliableWrapper w) = (refl, lit< tt)
-listed (message.UnreliableWrapper w) = (refl, lit< tt)
+listed (message.ReliableWrapper w) = refl
+listed (message.UnreliableWrapper w) = refl
 listed (message.Join j) = rw (join_length j) (join_listed j.address)
-listed (message.JoinRefuse m reason) = (refl, lit< tt)
-listed (message.JoinAccept m reciprocal) = (refl, lit< tt)
-listed (message.Leaving m reason) = (refl, lit< tt)
-listed (message.Ack r) = (refl, lit< tt)
-listed (message.Nak m first last) = (refl, lit< tt)
-listed (message.GetSessions cid) = (refl, lit< tt)
+listed (message.JoinRefuse m reason) = refl
+listed (message.JoinAccept m reciprocal) = refl
+listed (message.Leaving m reason) = refl
+listed (message.Ack r) = refl
+listed (message.Nak m first last) = refl
+listed (message.GetSessions cid) = refl
+
+-- so a message with a row has a form, and its fields are as long as the row says
+pub some_listed : (m : Message) (len : ℕ) → length_of (vector_of m) (address_of m) ≡ Some len → (has_form m ≡ true) × (len ≡ length (fields_of m))
+some_listed m len e = by (has_form m) (sym (listed m) ∙ e)
+  where
+    by : (b : Bool) → cond b (Some (length (fields_of m))) None ≡ Some len → (b ≡ true) × (len ≡ length (fields_of m))
+    by true q = (refl, cc)
+    by false q = absurd (none-some _ q)
+
+pub none_listed : (m : Message) → length_of (vector_of m) (address_of m) ≡ None → has_form m ≡ false
+none_listed m e = by (has_form m) (sym (listed m) ∙ e)
+  where
+    by : (b : Bool) → cond b (Some (length (fields_of m))) None ≡ None → b ≡ false
+    by true q = absurd (none-some _ (sym q))
+    by false q = refl
 
 -- ---- the PDU
 
@@ -116,6 +122,9 @@ carried_within (message.Leaving m reason) n more e = omega arith
 carried_within (message.Ack r) n more e = omega arith
 carried_within (message.Nak m first last) n more e = omega arith
 carried_within (message.GetSessions cid) n more e = omega arith
+
+pub wrapper_contents : (m : Message) (c : List ℕ) → carried_of m (length c) ≡ length c → c ≡ contents_of m c
+wrapper_contents m c e = sym (ap (λ (n : ℕ). take n c) e ∙ take-length c)
 
 pub contents_length : (m : Message) (c : List ℕ) → length (contents_of m c) ≡ carried_of m (length c)
 contents_length m c = length-take-le (carried_of m (length c)) c (carried_within m (length c) (carried_of m (length c)) refl)

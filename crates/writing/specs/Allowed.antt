@@ -1,13 +1,13 @@
 -- What the contract of writing a message allows (01, "How tight the contracts are"): m is the message, c the contents and r the room, both as
 -- they were lent.
-use Rattle.std.specs.Prelude.{ℕ, ◌≡◌, List}
+use Rattle.std.specs.Prelude.{ℕ, ◌≡◌, List, Result}
+use Rattle.refusal.specs.declared.Refusal.{Refusal}
 use Rattle.message.specs.declared.Message.{Message}
 use Rattle.writing.specs.Writing.{wrote, room_after}
-use Rattle.writing.specs.declared.Wrote.{Wrote}
 
 -- all that stands after the call: its answer, and the octets of the room
 pub record WriteEnds : Type 0 where
-  pub answer : Wrote
+  pub answer : Result ℕ Refusal
   pub room : List ℕ
 
 abbrev pub write_ends : Message → List ℕ → List ℕ → WriteEnds

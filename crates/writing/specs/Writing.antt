@@ -1,5 +1,7 @@
 -- Writing a message into a lent room (01, "Refusal numbers" and "Blocks and layouts"): m is the message, c the contents and r the room.
-use Rattle.std.specs.Prelude.{ℕ, Bool, cond, not, List, ◌++◌, length, take, ltb}
+use Rattle.std.specs.Prelude.{ℕ, Bool, cond, not, List, ◌++◌, length, take, ltb, Result, Ok, Err}
+use Rattle.refusal.specs.declared.Refusal.{Refusal}
+use Rattle.refusal.specs.declared.Refusal.TheVariants as refusal
 use Rattle.octets.specs.Octets.{splice}
 use Rattle.block.specs.Written.{pdu}
 use Rattle.message.specs.Lengths.{reliable_wrapper, unreliable_wrapper, join, join_refuse, join_accept, leaving, ack, nak, get_sessions, null, ipv4, most_contents}
@@ -8,9 +10,6 @@ use Rattle.message.specs.declared.Address.TheVariants as address
 use Rattle.message.specs.declared.Message.{Message}
 use Rattle.message.specs.declared.Message.TheVariants as message
 use Rattle.writing.specs.Fields.{fields_of}
-use Rattle.writing.specs.declared.Form.{Form}
-use Rattle.writing.specs.declared.Wrote.{Wrote}
-use Rattle.writing.specs.declared.Wrote.TheVariants.{Octets, NoForm, NoRoom, ContentsOver}
 
 unfoldable pub vector_of : Message → ℕ
 vector_of (message.ReliableWrapper w) = reliable_wrapper
@@ -40,10 +39,6 @@ address_of (message.Ack r) = null
 address_of (message.Nak m first last) = null
 address_of (message.GetSessions cid) = null
 
--- where the table of data lengths has the message
-unfoldable pub form_of : Message → Form
-form_of m = record { vector = vector_of m; address = address_of m }
-
 -- a Join with another address type than null or IPv4 has no written form
 unfoldable pub has_form : Message → Bool
 has_form m = ltb (address_of m) 2
@@ -68,26 +63,17 @@ unfoldable pub pdu_of : Message → List ℕ → List ℕ
 pdu_of m c = pdu (vector_of m) (fields_of m ++ contents_of m c)
 
 -- writing checks 4, then 1, then 7
-unfoldable pub wrote : Message → List ℕ → List ℕ → Wrote
+unfoldable pub wrote : Message → List ℕ → List ℕ → Result ℕ Refusal
 wrote m c r =
-    cond (not (has_form m)) NoForm
-    (cond (ltb (length r) (length (pdu_of m c))) NoRoom
-    (cond (ltb most_contents (length (contents_of m c))) ContentsOver
-    (Octets (length (pdu_of m c)))))
-
--- 01's number for what writing a message answers; 0 if it is written
-abbrev pub number_of : Wrote → ℕ
-number_of (Octets n) = 0
-number_of NoForm = 4
-number_of NoRoom = 1
-number_of ContentsOver = 7
+    cond (not (has_form m)) (Err refusal.NoForm)
+    (cond (ltb (length r) (length (pdu_of m c))) (Err refusal.WrongSize)
+    (cond (ltb most_contents (length (contents_of m c))) (Err refusal.ContentsOver)
+    (Ok (length (pdu_of m c)))))
 
 -- what the room then holds: the PDU at its front and all else as it was, or after a refusal what it held before
-abbrev pub leaves : Wrote → Message → List ℕ → List ℕ → List ℕ
-leaves (Octets n) m c r = splice r 0 (pdu_of m c)
-leaves NoForm m c r = r
-leaves NoRoom m c r = r
-leaves ContentsOver m c r = r
+abbrev pub leaves : Result ℕ Refusal → Message → List ℕ → List ℕ → List ℕ
+leaves (Ok n) m c r = splice r 0 (pdu_of m c)
+leaves (Err why) m c r = r
 
 unfoldable pub room_after : Message → List ℕ → List ℕ → List ℕ
 room_after m c r = leaves (wrote m c r) m c r

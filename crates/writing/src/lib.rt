@@ -5,7 +5,7 @@ ghost use Rattle.std.specs.Prelude.{◌≡◌, ◌+◌, ◌<◌, ◌≤◌, leng
 ghost use Rattle.octets.specs.Octets.{octets, splice, joined};
 ghost use Rattle.block.specs.Written.{head};
 ghost use Rattle.writing.specs.Fields.{cid_octets, membership_octets, wrapper_octets, parameters_octets, address_octets, join_octets, fields_of};
-ghost use Rattle.writing.specs.Writing.{type_of, form_of, carried_of};
+ghost use Rattle.writing.specs.Writing.{type_of, vector_of, address_of, contents_of};
 ghost use Rattle.writing.specs.Allowed.{WriteMessageAllows};
 
 use counter::Reliable;
@@ -13,22 +13,7 @@ use message::{
     Address, Cid, Join, MOST_CONTENTS, Membership, Message, Parameters, Wrapper, length_of,
 };
 use octets::{Field, copy_into};
-
-// Where the table of data lengths has a message: its vector and the type of its address.
-#[derive(Clone, Copy)]
-pub struct Form {
-    pub vector: u8,
-    pub address: u8,
-}
-
-// What writing answers: how many octets were written, or a refusal: `NoForm` is 4, `NoRoom` is 1 and `ContentsOver` is 7.
-#[derive(Clone, Copy)]
-pub enum Wrote {
-    Octets(usize),
-    NoForm,
-    NoRoom,
-    ContentsOver,
-}
+use refusal::Refusal;
 
 fn type_of(address: Address) -> u8
     ensures { result ≡ type_of address }
@@ -40,44 +25,31 @@ fn type_of(address: Address) -> u8
     }
 }
 
-fn plain(vector: u8) -> Form
-    ensures { (result.vector ≡ vector) × (result.address ≡ 0) }
+#[tactic(auto, unfolding(crate::specs::Writing::vector_of))]
+fn vector_of(m: Message) -> u8
+    ensures { result ≡ vector_of m }
 {
-    Form {
-        vector,
-        address: message::ADDRESS_NULL,
+    match m {
+        Message::ReliableWrapper(_) => message::RELIABLE_WRAPPER,
+        Message::UnreliableWrapper(_) => message::UNRELIABLE_WRAPPER,
+        Message::Join(_) => message::JOIN,
+        Message::JoinRefuse { .. } => message::JOIN_REFUSE,
+        Message::JoinAccept { .. } => message::JOIN_ACCEPT,
+        Message::Leaving { .. } => message::LEAVING,
+        Message::Ack(_) => message::ACK,
+        Message::Nak { .. } => message::NAK,
+        Message::GetSessions(_) => message::GET_SESSIONS,
     }
 }
 
-fn form_of(m: Message) -> Form
-    ensures { result ≡ form_of m }
+// The type of a message's address; one that has no address counts as one with a null address.
+#[tactic(auto, unfolding(crate::specs::Writing::address_of))]
+fn address_of(m: Message) -> u8
+    ensures { result ≡ address_of m }
 {
     match m {
-        Message::ReliableWrapper(_) => plain(message::RELIABLE_WRAPPER),
-        Message::UnreliableWrapper(_) => plain(message::UNRELIABLE_WRAPPER),
-        Message::Join(j) => Form {
-            vector: message::JOIN,
-            address: type_of(j.address),
-        },
-        Message::JoinRefuse {
-            member: _,
-            reason: _,
-        } => plain(message::JOIN_REFUSE),
-        Message::JoinAccept {
-            member: _,
-            reciprocal: _,
-        } => plain(message::JOIN_ACCEPT),
-        Message::Leaving {
-            member: _,
-            reason: _,
-        } => plain(message::LEAVING),
-        Message::Ack(_) => plain(message::ACK),
-        Message::Nak {
-            member: _,
-            first: _,
-            last: _,
-        } => plain(message::NAK),
-        Message::GetSessions(_) => plain(message::GET_SESSIONS),
+        Message::Join(j) => type_of(j.address),
+        _ => message::ADDRESS_NULL,
     }
 }
 
@@ -211,41 +183,35 @@ fn put_head(room: &mut [u8], size: usize, vector: u8) -> usize
     vector.put(room, at)
 }
 
-// How many octets of the contents are written: a wrapper's are all, and of any other message none.
-fn carried(m: Message, len: usize) -> usize
-    ensures { result ≡ carried_of m len }
+// The contents that are written: a wrapper's are all, and of any other message none.
+#[tactic(auto, using(crate::proofs::Forms::wrapper_contents), unfolding(crate::specs::Writing::carried_of))]
+fn contents_of<'a>(m: Message, contents: &'a [u8]) -> &'a [u8]
+    ensures { result.now ≡ contents_of m contents.now }
 {
     match m {
-        Message::ReliableWrapper(_) => len,
-        Message::UnreliableWrapper(_) => len,
-        _ => 0,
+        Message::ReliableWrapper(_) | Message::UnreliableWrapper(_) => contents,
+        _ => b"",
     }
 }
 
 // Writes a message at the front of the room, with contents if it is a wrapper. A refusal leaves the room as it was.
 #[inline(always)]
-pub fn write_message(m: Message, contents: &[u8], room: &mut [u8]) -> Wrote
+pub fn write_message(m: Message, contents: &[u8], room: &mut [u8]) -> Result<usize, Refusal>
     ensures { WriteMessageAllows m contents.now room.old (record { answer = result; room = room.new }) }
 {
-    let form = form_of(m);
-    let len = length_of(form.vector, form.address);
-    if len == 0 {
-        return Wrote::NoForm;
-    }
-    let more = carried(m, contents.len());
+    let vector = vector_of(m);
+    let len = length_of(vector, address_of(m)).ok_or(Refusal::NoForm)?;
+    let contents = contents_of(m, contents);
     let end = 3 + len;
-    if room.len() < end {
-        return Wrote::NoRoom;
+    if room.len() < end || room.len() - end < contents.len() {
+        return Err(Refusal::WrongSize);
     }
-    if room.len() - end < more {
-        return Wrote::NoRoom;
+    if MOST_CONTENTS < contents.len() {
+        return Err(Refusal::ContentsOver);
     }
-    if MOST_CONTENTS < more {
-        return Wrote::ContentsOver;
-    }
-    let size = end + more;
-    let at = put_head(room, size, form.vector);
+    let size = end + contents.len();
+    let at = put_head(room, size, vector);
     let at = put_fields(room, at, m);
-    copy_into(room, at, &contents[0..more]);
-    Wrote::Octets(size)
+    copy_into(room, at, contents);
+    Ok(size)
 }

@@ -1,7 +1,6 @@
 -- `writing::put_address` meets its contract: the writes of an arm are one run, and the last arm writes nothing. The address is known in
 -- each arm, so its length computes. Assumes nothing.
 use native.Mathlib.Omega.{arith}
-use mathlib.Core.Path.{refl}
 use Rattle.octets.specs.Octets.{octets}
 use Rattle.octets.proofs.Writes.{splice_nothing}
 use Rattle.writing.specs.Fields.{parameters_octets, address_octets}
