@@ -9,6 +9,7 @@ use mathlib.Core.Path.{◌≡◌, refl, sym, subst}
 use lib.Dec.{ltb, eqb, lit<}
 use lib.ListN.{length, replicate, get_or-map}
 use borrow.Author.Tests.{eqb-true}
+use Rattle.std.specs.Prelude.{Option, Some, None, is_some}
 use Rattle.octets.specs.Octets.{number, Octets as Bytes}
 use Rattle.message.specs.Lengths.{reliable_wrapper}
 use Rattle.message.specs.Layouts.{cid_at, wrapper_of, join_of, reliable}
@@ -29,8 +30,6 @@ use Rattle.wrapper.specs.declared.Arrived.{Arrived}
 use Rattle.wrapper.specs.declared.Plan.{Plan}
 use Rattle.joining.specs.Replies.{departure, missing}
 use Rattle.table.specs.Table.{same, found, lowest_free, table_formed, blank, record_at, named}
-use Rattle.table.specs.declared.Found.{Found}
-use Rattle.table.specs.declared.Found.TheVariants as search
 use Rattle.table.proofs.Finding.{found_at_lem}
 use Rattle.writing.specs.Fits.{Octets}
 use Rattle.sending.specs.Sent.{reply_of, event_of}
@@ -39,7 +38,7 @@ use Rattle.carry.proofs.DeliveredLength.{each_at}
 use Rattle.asking.specs.Asking.{arrived_of, wrapper_for, wrapper_asks, join_asks}
 use Rattle.asking.specs.declared.Asked.{Asked}
 use Rattle.member.specs.Sizes.{deliver_size, reply_size, message_sizes, elapsed_sizes, leave_sizes, cells_size}
-use Rattle.member.specs.Messages.{Outcome, refused_message, existing_at, is_found, join_outcome, plan_outcome, wrapper_outcome, asked_outcome, message_outcome}
+use Rattle.member.specs.Messages.{Outcome, refused_message, existing_at, is_some, join_outcome, plan_outcome, wrapper_outcome, asked_outcome, message_outcome}
 use Rattle.member.specs.Elapsing.{longest, Passing, refused_elapsed, passing, elapsed_outcome, sent_by}
 use Rattle.member.specs.Leaving.{Departing, refused_leave, departing, leave_for, leave_outcome}
 use Rattle.demands.specs.Calls.{Sound, Both}
@@ -59,16 +58,16 @@ Reads ts o j n out = ReadFrom out.reply 0 (given_means ts o j n out.given)
 
 module _ (ts : List Record) (wide : Wide ts) (held : List ℕ) (o : Cid) (n : ℕ) where
   -- what the table has for a Join
-  existing_at_lem : (c : ℕ) (f : Found) → found 0 o c ts ≡ f → FitExisting (existing_at ts f)
-  existing_at_lem c search.Nowhere e = tt
-  existing_at_lem c (search.At i) e =
+  existing_at_lem : (c : ℕ) (f : Option ℕ) → found 0 o c ts ≡ f → FitExisting (existing_at ts f)
+  existing_at_lem c None e = tt
+  existing_at_lem c (Some i) e =
       let w = wide i (found_at_lem o c ts i e).0 in
       existing_fits (record_at ts i) w.0 w.1
 
   join_reads : (j : Join) → FitAsked o j → Octets 2 n → Reads ts o j n (join_outcome ts held o j n)
   unfolding join_outcome
   join_reads j f g =
-      decided_read o j (existing_at ts (found 0 o j.channel ts)) n (is_found (lowest_free 0 ts)) f g
+      decided_read o j (existing_at ts (found 0 o j.channel ts)) n (is_some (lowest_free 0 ts)) f g
       (existing_at_lem j.channel (found 0 o j.channel ts) refl)
 
   step_reads : (j : Join) (k : ℕ) (w : Arrived) (c : List ℕ) → k < length ts → Both w.total w.reliable
@@ -86,9 +85,9 @@ module _ (ts : List Record) (wide : Wide ts) (held : List ℕ) (o : Cid) (n : �
       by false e = none_read
 
   wrapper_reads : (j : Join) (reliably : Bool) (w : Wrapper) (len : ℕ) (c : List ℕ) → Both w.total w.reliable
-      → (f : Found) → found 0 o w.channel ts ≡ f → Reads ts o j n (asked_outcome ts held o n c (wrapper_for f reliably w len))
-  wrapper_reads j reliably w len c b search.Nowhere e = none_read
-  wrapper_reads j reliably w len c b (search.At k) e =
+      → (f : Option ℕ) → found 0 o w.channel ts ≡ f → Reads ts o j n (asked_outcome ts held o n c (wrapper_for f reliably w len))
+  wrapper_reads j reliably w len c b None e = none_read
+  wrapper_reads j reliably w len c b (Some k) e =
       either (λ (a : Asked). Reads ts o j n (asked_outcome ts held o n c a)) (ltb most_contents len) _ _ none_read
       (step_reads j k (arrived_of reliably w len) c (found_at_lem o w.channel ts k e).0 b)
 
@@ -157,9 +156,9 @@ leave_replies ts reply owner channel reason wide =
     on i l true e = leave_read (record_at ts i) reason (wide i l).0 (wide i l).1 e
     on i l false e = none_read
 
-    by : (f : Found) → found 0 (cid_at owner 0) channel ts ≡ f → Sent (leave_for ts reason f)
-    by search.Nowhere e = none_read
-    by (search.At i) e = on i (found_at_lem (cid_at owner 0) channel ts i e).0 (leaving_reason reason) refl
+    by : (f : Option ℕ) → found 0 (cid_at owner 0) channel ts ≡ f → Sent (leave_for ts reason f)
+    by None e = none_read
+    by (Some i) e = on i (found_at_lem (cid_at owner 0) channel ts i e).0 (leaving_reason reason) refl
 
 -- ---- examples: the table in which record 2 has channel 7 of the first owner, and on it the second owner's Join to channel 7, elapsed time, and a leave call
 

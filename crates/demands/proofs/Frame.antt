@@ -6,6 +6,7 @@ use mathlib.Core.List.{List, [], ◌∷◌}
 use mathlib.Core.Logic.{◌≢◌}
 use mathlib.Core.Path.{◌≡◌, refl, sym, ap}
 use lib.ListN.{length}
+use Rattle.std.specs.Prelude.{Option, Some, None}
 use Rattle.message.specs.Layouts.{cid_at}
 use Rattle.message.specs.declared.Cid.{Cid}
 use Rattle.message.specs.declared.Join.{Join}
@@ -17,8 +18,6 @@ use Rattle.wrapper.specs.declared.Arrived.{Arrived}
 use Rattle.joining.specs.declared.Decision.{Decision}
 use Rattle.joining.specs.declared.Decision.TheVariants as decision
 use Rattle.table.specs.Table.{found, table_formed, record_at}
-use Rattle.table.specs.declared.Found.{Found}
-use Rattle.table.specs.declared.Found.TheVariants as search
 use Rattle.table.proofs.Tables.{set_there}
 use Rattle.carry.proofs.PlanFits.{taking}
 use Rattle.member.specs.Sizes.{leave_sizes}
@@ -33,31 +32,31 @@ use Rattle.demands.proofs.Lemmas.Outcomes.{Carries, message_cases}
 module _ (s : State) (right : Right s) (k : ℕ) where
   -- record k stands, if it is not the one that moves
   abbrev Frame : Outcome → Type 0
-  Frame out = moved out.given ≢ search.At k → Still s.table s.held k out
+  Frame out = moved out.given ≢ Some k → Still s.table s.held k out
 
   refused_still : (number : ℕ) → Frame (refused_message s.table s.held number)
   refused_still number z = record { at = refl; places = refl }
 
-  join_still : (c : Cid) (j : Join) (n : ℕ) (known free : Found) (d : Decision) → Frame (join_done s.table s.held c j n known free d)
+  join_still : (c : Cid) (j : Join) (n : ℕ) (known free : Option ℕ) (d : Decision) → Frame (join_done s.table s.held c j n known free d)
   join_still c j n known free (decision.Refuse reason) z = record { at = refl; places = refl }
   join_still c j n known free (decision.Again r reciprocal) z = record { at = refl; places = refl }
-  join_still c j n known (search.At i) (decision.Make p) z = record { at = set_there s.table i _ k (λ e. z (ap search.At e)); places = refl }
-  join_still c j n known search.Nowhere (decision.Make p) z = record { at = refl; places = refl }
+  join_still c j n known (Some i) (decision.Make p) z = record { at = set_there s.table i _ k (λ e. z (ap Some e)); places = refl }
+  join_still c j n known None (decision.Make p) z = record { at = refl; places = refl }
 
   plan_still : (i : ℕ) (w : Arrived) (c : List ℕ) → Carries s i w c → Frame (plan_outcome s.table s.held i w c (taken (record_at s.table i) w))
   unfolding plan_outcome
   plan_still i w c carries z =
       record {
-        at = set_there s.table i _ k (λ e. z (ap search.At e));
+        at = set_there s.table i _ k (λ e. z (ap Some e));
         places =
             slab_other i (taken (record_at s.table i) w).fate c s.held carries.within
             (taking (record_at s.table i) w (right.sound i carries.within).four).below carries.most right.size k
-            (λ e. z (ap search.At (sym e)));
+            (λ e. z (ap Some (sym e)));
       }
 
   -- every other record and its held octets stand
   pub message_frame : (deliver reply : ℕ) (sender ours : List ℕ) (v : ℕ) (d : List ℕ) (n : ℕ)
-      → moved (message_outcome s.table s.held deliver reply sender ours v d n).given ≢ search.At k
+      → moved (message_outcome s.table s.held deliver reply sender ours v d n).given ≢ Some k
       → Still s.table s.held k (message_outcome s.table s.held deliver reply sender ours v d n)
   message_frame = message_cases s right Frame refused_still join_still plan_still
 
@@ -70,15 +69,15 @@ unfolding leave_outcome departing
 leave_frame ts reply owner channel reason k =
     by (not (leave_sizes (length ts) reply (length owner))) (not (table_formed ts)) (found 0 (cid_at owner 0) channel ts) (leaving_reason reason) refl
   where
-    by : (a b : Bool) (f : Found) (c : Bool) → leaving_reason reason ≡ c
+    by : (a b : Bool) (f : Option ℕ) (c : Bool) → leaving_reason reason ≡ c
         → ((cond a (refused_leave ts 1) (cond b (refused_leave ts 2) (leave_for ts reason f))).number ≡ 0
         → (cond a (refused_leave ts 1) (cond b (refused_leave ts 2) (leave_for ts reason f))).at ≢ k)
         → record_at (cond a (refused_leave ts 1) (cond b (refused_leave ts 2) (leave_for ts reason f))).table k ≡ record_at ts k
     by true b f c e z = refl
     by false true f c e z = refl
-    by false false search.Nowhere c e z = refl
-    by false false (search.At i) false e z = rw e
-    by false false (search.At i) true e z = let y = rw e at z in rw e (set_there ts i _ k (y refl))
+    by false false None c e z = refl
+    by false false (Some i) false e z = rw e
+    by false false (Some i) true e z = let y = rw e at z in rw e (set_there ts i _ k (y refl))
 
 pub elapsed_frame : (ts : List Record) (ms k : ℕ) → record_at (passed (passing ts ms)).table k ≡ (elapsed_of (record_at ts k) ms).after
 unfolding elapsed_of

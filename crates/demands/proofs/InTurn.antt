@@ -16,6 +16,7 @@ use native.Mathlib.Omega.{arith}
 use lib.Dec.{ltb, eqb, lit≤, lit<}
 use lib.IntN.{pos}
 use lib.ListN.{length, get_or, take, set, replicate}
+use Rattle.std.specs.Prelude.{Option, Some, None, is_some}
 use Rattle.octets.specs.Octets.{number}
 use Rattle.counter.specs.Distance.{turn, ahead, distance}
 use Rattle.counter.specs.Steps.{next}
@@ -51,8 +52,6 @@ use Rattle.joining.specs.Joining.{legal_block, legal, decide_new, decided, new_r
 use Rattle.joining.specs.declared.Decision.{Decision}
 use Rattle.joining.specs.declared.Decision.TheVariants as decision
 use Rattle.table.specs.Table.{same, named, found, lowest_free, table_formed, record_at}
-use Rattle.table.specs.declared.Found.{Found}
-use Rattle.table.specs.declared.Found.TheVariants as search
 use Rattle.table.proofs.Finding.{found_at_lem, free_at}
 use Rattle.table.proofs.Tables as tables
 use Rattle.carry.specs.Carried.{Delivered, held_after, at_once, from_place, from_places, delivered_by}
@@ -60,7 +59,7 @@ use Rattle.carry.proofs.PlanFits.{taking}
 use Rattle.asking.specs.Asking.{arrived_of, wrapper_for, wrapper_asks, join_asks, asked_of}
 use Rattle.asking.specs.declared.Asked.{Asked}
 use Rattle.member.specs.Sizes.{table_size, held_size, deliver_size, reply_size, message_sizes}
-use Rattle.member.specs.Messages.{Outcome, refused_message, existing_at, is_found, join_done, join_outcome, plan_outcome, wrapper_outcome, asked_outcome, message_outcome}
+use Rattle.member.specs.Messages.{Outcome, refused_message, existing_at, is_some, join_done, join_outcome, plan_outcome, wrapper_outcome, asked_outcome, message_outcome}
 use Rattle.member.specs.declared.Given.TheVariants as given
 use Rattle.demands.specs.Runs.{Came, run, own_of, shown, Each, none, more}
 use Rattle.demands.specs.Calls as calls
@@ -264,18 +263,18 @@ module _ (ts : List Record) (i : ℕ) (p : Parameters) where
   -- record i was made by this Join: it is the one of the table, and the one that is told of
   abbrev Made : Cid → Join → ℕ → Outcome → Type 0
   Made o j n out =
-      out.given ≡ given.Joined (search.At i) (decision.Make p)
+      out.given ≡ given.Joined (Some i) (decision.Make p)
       → (out.table ≡ set ts i (new_record (record_at ts i) o j p n)) × (i < length ts)
 
   module _ (held : List ℕ) (o : Cid) (j : Join) (n : ℕ) where
     refused_made : (k : ℕ) → Made o j n (refused_message ts held k)
     refused_made k e = never (cc)
 
-    join_made : (known free : Found) (answer : Decision) → lowest_free 0 ts ≡ free → Made o j n (join_done ts held o j n known free answer)
+    join_made : (known free : Option ℕ) (answer : Decision) → lowest_free 0 ts ≡ free → Made o j n (join_done ts held o j n known free answer)
     join_made known free (decision.Refuse reason) f e = never (cc)
     join_made known free (decision.Again r reciprocal) f e = never (cc)
-    join_made known search.Nowhere (decision.Make q) f e = never (cc)
-    join_made known (search.At k) (decision.Make q) f e =
+    join_made known None (decision.Make q) f e = never (cc)
+    join_made known (Some k) (decision.Make q) f e =
         let at : k ≡ i = cc in
         let parameters : q ≡ p = cc in
         (rw (at, parameters), subst (λ (m : ℕ). m < length ts) at (free_at ts k f).0)
@@ -289,9 +288,9 @@ module _ (ts : List Record) (i : ℕ) (p : Parameters) where
         (λ e. never (cc))
         (refused_made (stepped (record_at ts k) w).number)
 
-    wrapper_made : (f : Found) (b : Bool) (w : Wrapper) (len : ℕ) (c : List ℕ) → Made o j n (asked_outcome ts held o n c (wrapper_for f b w len))
-    wrapper_made search.Nowhere b w len c = refused_made 6
-    wrapper_made (search.At k) b w len c =
+    wrapper_made : (f : Option ℕ) (b : Bool) (w : Wrapper) (len : ℕ) (c : List ℕ) → Made o j n (asked_outcome ts held o n c (wrapper_for f b w len))
+    wrapper_made None b w len c = refused_made 6
+    wrapper_made (Some k) b w len c =
         either (λ (a : Asked). Made o j n (asked_outcome ts held o n c a)) (ltb most_contents len) _ _ (refused_made 7) (plan_made k (arrived_of b w len) c)
 
   asked_made : (held : List ℕ) (o ours : Cid) (v : ℕ) (d : List ℕ) (n : ℕ) {a : Asked} → Asks ts o ours v d a
@@ -301,7 +300,7 @@ module _ (ts : List Record) (i : ℕ) (p : Parameters) where
   asked_made held o ours v d n (asks.joins r e) =
       either (λ (a : Asked). Made o (join_of d) n (asked_outcome ts held o n (contents d) a)) (same (join_of d).cid ours) _ _
       (join_made held o (join_of d) n (found 0 o (join_of d).channel ts) (lowest_free 0 ts)
-      (decided (join_of d) (existing_at ts (found 0 o (join_of d).channel ts)) n (is_found (lowest_free 0 ts))) refl)
+      (decided (join_of d) (existing_at ts (found 0 o (join_of d).channel ts)) n (is_some (lowest_free 0 ts))) refl)
       (refused_made held o (join_of d) n 5)
   asked_made held o ours v d n (asks.wraps r w) =
       wrapper_made held o (join_of d) n (found 0 o (wrapper_of d).channel ts) (eqb v reliable_wrapper) (wrapper_of d) (length (contents d)) (contents d)
@@ -391,7 +390,7 @@ join_call = calls.message held_size deliver_size reply_size (sample.cid 3 4) (re
 -- it is made in the lowest free record
 pub makes_with : (lent : List ℕ) → length lent ≡ held_size
     → (message_outcome (sample.table_of sample.free) lent deliver_size reply_size (sample.cid 3 4) (replicate 16 0) 4 sample.join_data 9).given
-    ≡ given.Joined (search.At 0) (decision.Make (parameters_at sample.join_data 31))
+    ≡ given.Joined (Some 0) (decision.Make (parameters_at sample.join_data 31))
 unfolding message_outcome message_sizes asked_of read_message readable readable_join length_of look message_of join_of address_of parameters_at join_asks join_outcome
     found lowest_free named same cid_at number decided decide_new legal legal_block legal_names legal_parameters min_expiry
 makes_with lent l = rw (l, (sample.joined_one).right.formed)

@@ -10,6 +10,7 @@ use mathlib.Core.Bool.{true}
 use native.Mathlib.Omega.{arith}
 use lib.ListN.{length, replicate, get_or}
 use lib.Dec.{lit<}
+use Rattle.std.specs.Prelude.{Some}
 use Rattle.octets.specs.Octets.{part, number}
 use Rattle.counter.specs.Distance.{distance}
 use Rattle.message.specs.Lengths.{reliable_wrapper, look, length_of}
@@ -23,7 +24,6 @@ use Rattle.wrapper.specs.Release.{next_held, release_at, release_from, released}
 use Rattle.wrapper.specs.Settle.{gapped, asked, spared, acknowledged, settled}
 use Rattle.wrapper.specs.Taken.{taken, stepped}
 use Rattle.table.specs.Table.{found, named, table_formed, free_table, same}
-use Rattle.table.specs.declared.Found.TheVariants as search
 use Rattle.table.proofs.Tables.{free_table_formed}
 use Rattle.carry.specs.Carried.{from_place, delivered_by, Delivered}
 use Rattle.asking.specs.Asking.{wrapper_asks, asked_of}
@@ -76,7 +76,7 @@ refused_leave_lem reply l =
 
 -- ---- a call that moves one record
 
-not_two : search.At 0 ≢ search.At 2
+not_two : Some 0 ≢ Some 2
 not_two e = never (cc)
 
 -- the second owner's Join makes record 0; record 2, with the first owner's channel, stands
@@ -84,7 +84,7 @@ join_leaves_two : Still (sample.table_of sample.free) (sample.held_of 0) 2
     (message_outcome (sample.table_of sample.free) (sample.held_of 0) deliver_size reply_size (sample.cid 3 4) (replicate 16 0) 4 sample.join_data 9)
 join_leaves_two =
     message_frame (sample.state_of sample.free 0) (sample.joined_one).right 2 deliver_size reply_size (sample.cid 3 4) (replicate 16 0) 4 sample.join_data 9
-    (subst (λ g. moved g ≢ search.At 2) (sym (makes_with (sample.held_of 0) (sample.held_size_lem 0))) not_two)
+    (subst (λ g. moved g ≢ Some 2) (sym (makes_with (sample.held_of 0) (sample.held_size_lem 0))) not_two)
 
 -- ---- a call that delivers
 

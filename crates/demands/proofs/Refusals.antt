@@ -11,6 +11,7 @@ use mathlib.Core.List.{List, [], ◌∷◌}
 use lib.ListN.{length, get_or}
 use lib.Dec.{ltb, eqb}
 use borrow.Author.Tests.{eqb-true}
+use Rattle.std.specs.Prelude.{Option, Some, None, is_some, Result, Ok, Err}
 use Rattle.octets.specs.Octets.{number_at}
 use Rattle.octets.proofs.Writes.{splice_nothing}
 use Rattle.message.specs.Lengths.{reliable_wrapper, unreliable_wrapper, join, join_refuse, join_accept, leaving, ack, nak}
@@ -20,23 +21,20 @@ use Rattle.message.specs.declared.Cid.{Cid}
 use Rattle.message.specs.declared.Join.{Join}
 use Rattle.message.specs.declared.Message.TheVariants as message
 use Rattle.message.specs.declared.Wrapper.{Wrapper}
-use Rattle.message.specs.declared.MessageRead.TheVariants as read
+use Rattle.refusal.specs.declared.Refusal.{Refusal}
+use Rattle.refusal.specs.declared.Refusal.TheVariants as refusal
 use Rattle.record.specs.Reasons.{leaving_reason}
 use Rattle.record.specs.WellFormed.{most_contents}
 use Rattle.record.specs.declared.Record.{Record}
 use Rattle.wrapper.specs.Judge.{judged}
 use Rattle.wrapper.specs.Taken.{stepped_by, stepped}
 use Rattle.wrapper.specs.declared.Arrived.{Arrived}
-use Rattle.wrapper.specs.declared.Judged.{Judged}
-use Rattle.wrapper.specs.declared.Judged.TheVariants as judging
 use Rattle.carry.specs.Carried.{deliver_from, listed}
 use Rattle.table.specs.Table.{same, found, table_formed, record_at}
-use Rattle.table.specs.declared.Found.{Found}
-use Rattle.table.specs.declared.Found.TheVariants as search
 use Rattle.asking.specs.Asking.{arrived_of, wrapper_for, wrapper_asks, join_asks, message_asks, read_asks, asked_of}
 use Rattle.asking.specs.declared.Asked.TheVariants as asked
 use Rattle.member.specs.Sizes.{message_sizes, elapsed_sizes, leave_sizes}
-use Rattle.member.specs.Messages.{Outcome, is_found, refused_message, join_outcome, plan_outcome, stepped_outcome, wrapper_outcome, asked_outcome, message_outcome, number_of, messaged, message_end}
+use Rattle.member.specs.Messages.{Outcome, is_some, refused_message, join_outcome, plan_outcome, stepped_outcome, wrapper_outcome, asked_outcome, message_outcome, number_of, messaged, message_end}
 use Rattle.member.specs.Elapsing.{longest, Passing, refused_elapsed, passing, elapsed_outcome, elapsed_end}
 use Rattle.member.specs.Leaving.{Departing, refused_leave, departing, leave_for, leave_outcome, left, leave_end}
 use Rattle.demands.specs.Refusals.{first_number, First, None, check, unreadable, is_wrapper, too_long, record_found, is_old, is_inconsistent, message_checks, elapsed_checks, leave_checks, message_stands, elapsed_stands, leave_stands}
@@ -94,14 +92,14 @@ unfolding leave_outcome departing first_number
 leave_told ts reply owner channel reason =
     by (not (leave_sizes (length ts) reply (length owner))) (not (table_formed ts)) (found 0 (cid_at owner 0) channel ts) (leaving_reason reason) refl
   where
-    by : (a b : Bool) (f : Found) (c : Bool) → leaving_reason reason ≡ c
-        → Left ts (first_number (check 1 a ∷ check 2 b ∷ check 6 (not (is_found f)) ∷ check 10 (not c) ∷ []))
+    by : (a b : Bool) (f : Option ℕ) (c : Bool) → leaving_reason reason ≡ c
+        → Left ts (first_number (check 1 a ∷ check 2 b ∷ check 6 (not (is_some f)) ∷ check 10 (not c) ∷ []))
         (cond a (refused_leave ts 1) (cond b (refused_leave ts 2) (leave_for ts reason f)))
     by true b f c e = refused 1
     by false true f c e = refused 2
-    by false false search.Nowhere c e = refused 6
-    by false false (search.At i) false e = rw e (refused 10)
-    by false false (search.At i) true e = rw e (accepted _ refl)
+    by false false None c e = refused 6
+    by false false (Some i) false e = rw e (refused 10)
+    by false false (Some i) true e = rw e (accepted _ refl)
 
 -- the number of a leave call is that of the first condition that holds, or 0
 pub leave_number : (ts : List Record) (reply : ℕ) (owner : List ℕ) (channel reason : ℕ)
@@ -132,32 +130,32 @@ data Told (ts : List Record) (held : List ℕ) : ℕ → Outcome → Type 0 wher
 
 module _ (ts : List Record) (held : List ℕ) (s : Cid) (n : ℕ) (c : List ℕ) where
   -- 8 and 9: the step's own
-  judged_told : (i : ℕ) (w : Arrived) (j : Judged)
+  judged_told : (i : ℕ) (w : Arrived) (j : Result (Unit {0}) Refusal)
       → Told ts held (first_number (check 8 (is_old j) ∷ check 9 (is_inconsistent j) ∷ []))
       (stepped_outcome ts held i w c (stepped_by j (record_at ts i) w))
   unfolding first_number plan_outcome
-  judged_told i w judging.Old = refused 8
-  judged_told i w judging.Inconsistent = refused 9
-  judged_told i w judging.Fresh = accepted _ refl
+  judged_told i w (Err refusal.Old) = refused 8
+  judged_told i w (Err refusal.Inconsistent) = refused 9
+  judged_told i w (Ok tt) = accepted _ refl
 
   -- 6 to 9: a wrapper
-  wrapper_told : (f : Found) (reliably : Bool) (w : Wrapper) (len : ℕ) (over : Bool) → ltb most_contents len ≡ over
+  wrapper_told : (f : Option ℕ) (reliably : Bool) (w : Wrapper) (len : ℕ) (over : Bool) → ltb most_contents len ≡ over
       → Told ts held
       (first_number
-      (check 6 (not (is_found f))
+      (check 6 (not (is_some f))
       ∷ check 7 over
       ∷ check 8 (is_old (judged (record_found ts f) reliably w.total w.reliable))
       ∷ check 9 (is_inconsistent (judged (record_found ts f) reliably w.total w.reliable))
       ∷ []))
       (asked_outcome ts held s n c (wrapper_for f reliably w len))
   unfolding first_number wrapper_outcome stepped
-  wrapper_told search.Nowhere reliably w len over e = refused 6
-  wrapper_told (search.At i) reliably w len true e = rw e (refused 7)
-  wrapper_told (search.At i) reliably w len false e =
+  wrapper_told None reliably w len over e = refused 6
+  wrapper_told (Some i) reliably w len true e = rw e (refused 7)
+  wrapper_told (Some i) reliably w len false e =
       rw e (judged_told i (arrived_of reliably w len) (judged (record_at ts i) reliably w.total w.reliable))
 
   -- 5: neither wrapper nor Join, nor an ACK
-  fixed_asks : (o : Cid) (v : ℕ) (d : List ℕ) (len : ℕ) → eqb v ack ≡ false → message_asks ts s o (fixed_of v d) len ≡ asked.Refused 5
+  fixed_asks : (o : Cid) (v : ℕ) (d : List ℕ) (len : ℕ) → eqb v ack ≡ false → message_asks ts s o (fixed_of v d) len ≡ Err refusal.NotForUs
   unfolding fixed_of
   fixed_asks o v d len e = rw e (by (eqb v join_refuse) (eqb v join_accept) (eqb v leaving) (eqb v nak))
     where
@@ -169,7 +167,7 @@ module _ (ts : List Record) (held : List ℕ) (s : Cid) (n : ℕ) (c : List ℕ)
           (cond f (message.Nak (membership_of d) (reliable (number_at d 24 4)) (reliable (number_at d 28 4)))
           (message.GetSessions (cid_at d 0))))))
           len
-          ≡ asked.Refused 5
+          ≡ Err refusal.NotForUs
       by true b c f = refl
       by false true c f = refl
       by false false true f = refl
@@ -178,7 +176,7 @@ module _ (ts : List Record) (held : List ℕ) (s : Cid) (n : ℕ) (c : List ℕ)
 
   -- 4: an ACK, whether it is readable or not
   ack_told : (o : Cid) (d : List ℕ) (len : ℕ) (b : Bool)
-      → Told ts held 4 (asked_outcome ts held s n c (read_asks ts s o (cond b (read.Read (message_of ack d)) read.Unreadable) len))
+      → Told ts held 4 (asked_outcome ts held s n c (read_asks ts s o (cond b (Ok (message_of ack d)) (Err refusal.NoForm)) len))
   unfolding message_of fixed_of
   ack_told o d len true = refused 4
   ack_told o d len false = refused 4
@@ -195,7 +193,7 @@ module _ (ts : List Record) (held : List ℕ) (s : Cid) (n : ℕ) (c : List ℕ)
       (first_number
       (check 4 (unreadable v d)
       ∷ check 5 (not (is_wrapper v) && not (eqb v join && same (join_of d).cid o))
-      ∷ check 6 (is_wrapper v && not (is_found (found 0 s (wrapper_of d).channel ts)))
+      ∷ check 6 (is_wrapper v && not (is_some (found 0 s (wrapper_of d).channel ts)))
       ∷ check 7 (too_long v d)
       ∷ check 8 (is_wrapper v && is_old (judged (record_found ts (found 0 s (wrapper_of d).channel ts)) (eqb v reliable_wrapper) (wrapper_of d).total (wrapper_of d).reliable))
       ∷ check 9 (is_wrapper v && is_inconsistent (judged (record_found ts (found 0 s (wrapper_of d).channel ts)) (eqb v reliable_wrapper) (wrapper_of d).total (wrapper_of d).reliable))
@@ -204,7 +202,7 @@ module _ (ts : List Record) (held : List ℕ) (s : Cid) (n : ℕ) (c : List ℕ)
   unfolding asked_of read_message message_of first_number wrapper_asks
   asked_told o v d = split (eqb v ack) refl
     where
-      f : Found
+      f : Option ℕ
       f = found 0 s (wrapper_of d).channel ts
 
       by : eqb v ack ≡ false → (r x y z q : Bool) → same (join_of d).cid o ≡ q
@@ -212,14 +210,14 @@ module _ (ts : List Record) (held : List ℕ) (s : Cid) (n : ℕ) (c : List ℕ)
           (first_number
           (check 4 (not r)
           ∷ check 5 (not (x || y) && not (z && q))
-          ∷ check 6 ((x || y) && not (is_found f))
+          ∷ check 6 ((x || y) && not (is_some f))
           ∷ check 7 ((x || y) && ltb most_contents (length (contents d)))
           ∷ check 8 ((x || y) && is_old (judged (record_found ts f) x (wrapper_of d).total (wrapper_of d).reliable))
           ∷ check 9 ((x || y) && is_inconsistent (judged (record_found ts f) x (wrapper_of d).total (wrapper_of d).reliable))
           ∷ []))
           (asked_outcome ts held s n c
           (read_asks ts s o
-          (cond r (read.Read (cond x (message.ReliableWrapper (wrapper_of d)) (cond y (message.UnreliableWrapper (wrapper_of d)) (cond z (message.Join (join_of d)) (fixed_of v d))))) read.Unreadable)
+          (cond r (Ok (cond x (message.ReliableWrapper (wrapper_of d)) (cond y (message.UnreliableWrapper (wrapper_of d)) (cond z (message.Join (join_of d)) (fixed_of v d))))) (Err refusal.NoForm))
           (length (contents d))))
       by a false x y z q e = refused 4
       by a true true y z q e = wrapper_told f true (wrapper_of d) (length (contents d)) (ltb most_contents (length (contents d))) refl
@@ -233,7 +231,7 @@ module _ (ts : List Record) (held : List ℕ) (s : Cid) (n : ℕ) (c : List ℕ)
           (first_number
           (check 4 (b || not (readable v d))
           ∷ check 5 (not (is_wrapper v) && not (eqb v join && same (join_of d).cid o))
-          ∷ check 6 (is_wrapper v && not (is_found f))
+          ∷ check 6 (is_wrapper v && not (is_some f))
           ∷ check 7 (too_long v d)
           ∷ check 8 (is_wrapper v && is_old (judged (record_found ts f) (eqb v reliable_wrapper) (wrapper_of d).total (wrapper_of d).reliable))
           ∷ check 9 (is_wrapper v && is_inconsistent (judged (record_found ts f) (eqb v reliable_wrapper) (wrapper_of d).total (wrapper_of d).reliable))

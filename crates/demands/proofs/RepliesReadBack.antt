@@ -41,8 +41,6 @@ use Rattle.gap.specs.Range.{nearer, nearest, end_by, nak_first, nak_last}
 use Rattle.gap.specs.declared.Elapsed.{Elapsed}
 use Rattle.gap.specs.declared.Event.{Event}
 use Rattle.gap.specs.declared.Event.TheVariants as event
-use Rattle.gap.specs.declared.Nearest.{Nearest}
-use Rattle.gap.specs.declared.Nearest.TheVariants as near
 use Rattle.gap.proofs.Moves.{Next, quiet, stands_on, asks, waits_on, once_more, Move, stands, expires, lost, goes_on, moves}
 use Rattle.gap.proofs.Stays.{terms_stay}
 use Rattle.wrapper.specs.Judge.{heard}
@@ -51,7 +49,6 @@ use Rattle.wrapper.specs.Release.{released}
 use Rattle.wrapper.specs.Settle.{lost as isLost, gapped, asked, spared, acknowledged, settled}
 use Rattle.wrapper.specs.Taken.{taken}
 use Rattle.wrapper.specs.declared.Arrived.{Arrived}
-use Rattle.wrapper.specs.declared.Gapped.{Gapped}
 use Rattle.wrapper.specs.declared.Reply.{Reply}
 use Rattle.wrapper.specs.declared.Reply.TheVariants as reply
 use Rattle.wrapper.specs.declared.Settled.{Settled}
@@ -60,7 +57,6 @@ use Rattle.joining.specs.Replies.{member_at, asked_at, join_refuse_of, acceptanc
 use Rattle.joining.specs.declared.Decision.{Decision}
 use Rattle.joining.specs.declared.Decision.TheVariants as decision
 use Rattle.joining.specs.declared.Existing.{Existing}
-use Rattle.joining.specs.declared.Existing.TheVariants as existing
 use Rattle.writing.specs.Fields.{fields_of}
 use Rattle.writing.specs.Fits.{Octets, FitMembership, Fits}
 use Rattle.writing.specs.Writing.{vector_of, address_of, has_form, contents_of, pdu_of}

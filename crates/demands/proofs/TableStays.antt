@@ -9,6 +9,7 @@ use native.Mathlib.Omega.{arith}
 use lib.Dec.{lit<, ltb, eqb}
 use lib.ListN.{length, set, replicate, length-set, length-map, get_or-replicate}
 use borrow.Author.Tests.{eqb-true}
+use Rattle.std.specs.Prelude.{Option, Some, None, is_some, Ok, Err}
 use Rattle.octets.specs.Octets.{Octets}
 use Rattle.message.specs.Layouts.{cid_at}
 use Rattle.message.specs.Reading.{contents}
@@ -29,14 +30,11 @@ use Rattle.wrapper.specs.Taken.{stepped}
 use Rattle.wrapper.specs.declared.Arrived.{Arrived}
 use Rattle.wrapper.proofs.Stays.{wrapper_stays}
 use Rattle.joining.specs.Joining.{decided, new_record}
-use Rattle.joining.specs.declared.Existing.TheVariants as existing
 use Rattle.joining.specs.declared.Decision.{Decision}
 use Rattle.joining.specs.declared.Decision.TheVariants as decision
 use Rattle.joining.proofs.Made.{made_well_formed}
 use Rattle.joining.proofs.Depends.{accepted_new}
 use Rattle.table.specs.Table.{named, found, lowest_free, table_formed, blank, free_table, record_at}
-use Rattle.table.specs.declared.Found.{Found}
-use Rattle.table.specs.declared.Found.TheVariants as search
 use Rattle.table.proofs.Finding.{found_at_lem, found_nowhere, free_at}
 use Rattle.table.proofs.Tables.{TableFormed, formed, well_formed_lem, free_table_formed, named_is, is_named_lem, Stands, set_at, free_set_formed, same_set_formed, new_set_formed}
 use Rattle.carry.proofs.OwnPlaces.{held_length}
@@ -46,7 +44,7 @@ use Rattle.asking.specs.declared.Asked.{Asked}
 use Rattle.asking.specs.declared.Asked.TheVariants as asked
 use Rattle.asking.proofs.Steps.{asked_wrapper}
 use Rattle.member.specs.Sizes.{table_size, held_size, deliver_size, reply_size, cid_size, message_sizes, elapsed_sizes, leave_sizes}
-use Rattle.member.specs.Messages.{Outcome, existing_at, is_found, table_after, refused_message, join_outcome, plan_outcome, wrapper_outcome, asked_outcome, message_outcome}
+use Rattle.member.specs.Messages.{Outcome, existing_at, is_some, table_after, refused_message, join_outcome, plan_outcome, wrapper_outcome, asked_outcome, message_outcome}
 use Rattle.member.specs.Elapsing.{longest, Passing, elapsed_outcome, passed}
 use Rattle.member.specs.Leaving.{Departing, leave_for, departing, leave_outcome}
 use Rattle.demands.specs.Calls as calls
@@ -91,9 +89,9 @@ leave_right ts reply owner channel reason t =
     either (λ (p : Departing). RightTable p.table) (not (leave_sizes (length ts) reply (length owner))) _ _ t
     (either (λ (p : Departing). RightTable p.table) (not (table_formed ts)) _ _ t (by (found 0 (cid_at owner 0) channel ts) refl))
   where
-    by : (f : Found) → found 0 (cid_at owner 0) channel ts ≡ f → RightTable (leave_for ts reason f).table
-    by search.Nowhere e = t
-    by (search.At i) e =
+    by : (f : Option ℕ) → found 0 (cid_at owner 0) channel ts ≡ f → RightTable (leave_for ts reason f).table
+    by None e = t
+    by (Some i) e =
         let h = (found_at_lem (cid_at owner 0) channel ts i e).0 in
         let r = freed (record_at ts i) in
         either (λ (p : Departing). RightTable p.table) (leaving_reason reason) _ _
@@ -181,17 +179,17 @@ module _ {ts : List Record} (t : RightTable ts) (held : List ℕ) where
       found_nowhere s j.channel ts
       (by (found 0 s j.channel ts) ((accepted_new j (existing_at ts (found 0 s j.channel ts)) n free p).0 e).2)
     where
-      by : (f : Found) → existing_at ts f ≡ existing.Unknown → f ≡ search.Nowhere
-      by search.Nowhere u = refl
-      by (search.At i) u = never (cc)
+      by : (f : Option ℕ) → existing_at ts f ≡ existing.Unknown → f ≡ None
+      by None u = refl
+      by (Some i) u = never (cc)
 
-  made_right : (s : Cid) (j : Join) (n : ℕ) → Both j.total j.reliable → (d : Decision) (f : Found) (free : Bool)
+  made_right : (s : Cid) (j : Join) (n : ℕ) → Both j.total j.reliable → (d : Decision) (f : Option ℕ) (free : Bool)
       → decided j (existing_at ts (found 0 s j.channel ts)) n free ≡ d → lowest_free 0 ts ≡ f → RightTable (table_after ts s j n d f)
   unfolding new_record
   made_right s j n b (decision.Refuse reason) f free e g = t
   made_right s j n b (decision.Again r reciprocal) f free e g = t
-  made_right s j n b (decision.Make p) search.Nowhere free e g = t
-  made_right s j n b (decision.Make p) (search.At i) free e g =
+  made_right s j n b (decision.Make p) None free e g = t
+  made_right s j n b (decision.Make p) (Some i) free e g =
       let h = (free_at ts i g).0 in
       let r = new_record (record_at ts i) s j p n in
       let w = made_well_formed (record_at ts i) s j _ p n free e in
@@ -201,7 +199,7 @@ module _ {ts : List Record} (t : RightTable ts) (held : List ℕ) where
 
   join_keeps : (s : Cid) (j : Join) (n : ℕ) → Both j.total j.reliable → Keeps held (join_outcome ts held s j n)
   unfolding join_outcome
-  join_keeps s j n b = record { table = made_right s j n b _ (lowest_free 0 ts) (is_found (lowest_free 0 ts)) refl refl; size = refl }
+  join_keeps s j n b = record { table = made_right s j n b _ (lowest_free 0 ts) (is_some (lowest_free 0 ts)) refl refl; size = refl }
 
   module _
       (i : ℕ)
@@ -249,9 +247,9 @@ module _ {ts : List Record} (t : RightTable ts) (held : List ℕ) where
 
   asked_keeps : (s o : Cid) (v : ℕ) (d : List ℕ) (n : ℕ) → length held ≡ held_size → (a : Asked) → asked_of ts s o v d ≡ a → Brings a
       → Keeps held (asked_outcome ts held s n (contents d) a)
-  asked_keeps s o v d n room (asked.Refused number) e b = refused_keeps number
-  asked_keeps s o v d n room (asked.Join j) e b = join_keeps s j n b
-  asked_keeps s o v d n room (asked.Wrapper i w) e b =
+  asked_keeps s o v d n room (Err why) e b = refused_keeps number
+  asked_keeps s o v d n room (Ok (asked.Join j)) e b = join_keeps s j n b
+  asked_keeps s o v d n room (Ok (asked.Wrapper i w)) e b =
       let step = asked_wrapper ts s o i w v d e in
       wrapper_keeps i w (contents d) step.within step.used step.len step.fits room b
 

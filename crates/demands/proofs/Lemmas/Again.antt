@@ -10,6 +10,7 @@ use lib.ListN.{length, get_or, take, drop, take-append-drop}
 use lib.Seq.{get_or-drop, take_all, take-length}
 use lib.Dec.{lit<, eqb}
 use borrow.Author.Tests.{leb-true, eqb-true, ne_eqb}
+use Rattle.std.specs.Prelude.{None, Ok, Err}
 use Rattle.octets.specs.Octets.{octets, part, number_at, joined, Octets}
 use Rattle.octets.proofs.Numbers.{octets_tail, octets_number, part_add, length_part, number_one}
 use Rattle.message.specs.Lengths.{reliable_wrapper, unreliable_wrapper, join, join_refuse, join_accept, leaving, ack, nak, get_sessions, null, ipv4, rows, look, length_of}
@@ -19,7 +20,7 @@ use Rattle.message.proofs.Readable.{null_length, ipv4_length, join_length, rowle
 use Rattle.message.specs.declared.Row.{Row}
 use Rattle.message.specs.declared.Message.{Message}
 use Rattle.message.specs.declared.Message.TheVariants as message
-use Rattle.message.specs.declared.MessageRead.TheVariants.{Read, Unreadable}
+use Rattle.refusal.specs.declared.Refusal.TheVariants as refusal
 use Rattle.writing.specs.Fields.{cid_octets, membership_octets, wrapper_octets, parameters_octets, address_octets, join_octets, fields_of}
 use Rattle.writing.specs.Writing.{vector_of, address_of as addressType, has_form, carried_of, contents_of}
 
@@ -65,7 +66,7 @@ by_test true t f = t refl
 by_test false t f = f refl
 
 -- then it holds of a vector that has a length in the table
-in_table : (P : ℕ → Type 0) (rs : List Row) (v a : ℕ) → Each P rs → look rs v a ≢ 0 → P v
+in_table : (P : ℕ → Type 0) (rs : List Row) (v a : ℕ) → Each P rs → look rs v a ≢ None → P v
 unfolding look
 in_table P [] v a p h = absurd (h refl)
 in_table P (r ∷ rs) v a p h =
@@ -82,7 +83,7 @@ abbrev Kept : List ℕ → ℕ → Type 0
 Kept d v = readable v d ≡ true → has_form (message_of v d) ≡ true → Same v d (message_of v d)
 
 -- what is read is the message of data that is readable
-read_is : (b : Bool) (n m : Message) → cond b (Read n) Unreadable ≡ Read m → (b ≡ true) × (n ≡ m)
+read_is : (b : Bool) (n m : Message) → cond b (Ok n) (Err refusal.NoForm) ≡ Ok m → (b ≡ true) × (n ≡ m)
 read_is true n m e = (refl, cc)
 read_is false n m e = (cc, cc)
 
@@ -240,7 +241,7 @@ module _ (d : List ℕ) (o : Octets d) where
   unfolding length_of
   kept v r f = in_table (Kept d) rows v null each_kept (λ z. true≢false (sym r ∙ rowless v d z)) r f
 
-  pub again : (v : ℕ) (m : Message) → read_message v d ≡ Read m → has_form m ≡ true → Same v d m
+  pub again : (v : ℕ) (m : Message) → read_message v d ≡ Ok m → has_form m ≡ true → Same v d m
   unfolding read_message
   again v m e f =
       let p = read_is (readable v d) (message_of v d) m e in

@@ -6,6 +6,7 @@ use mathlib.Core.Bool.{Bool, true, false, cond}
 use mathlib.Core.List.{List}
 use lib.Dec.{lit<, ltb, eqb}
 use lib.ListN.{length, drop, length-take}
+use Rattle.std.specs.Prelude.{Option, Some, None, Result, Ok, Err}
 use Rattle.octets.specs.Octets.{part, number_at, Octets}
 use Rattle.octets.proofs.Numbers.{number_below}
 use Rattle.message.specs.Lengths.{reliable_wrapper, unreliable_wrapper, join, join_refuse, join_accept, leaving, ack, nak}
@@ -15,12 +16,11 @@ use Rattle.message.specs.declared.Cid.{Cid}
 use Rattle.message.specs.declared.Wrapper.{Wrapper}
 use Rattle.message.specs.declared.Message.{Message}
 use Rattle.message.specs.declared.Message.TheVariants as message
-use Rattle.message.specs.declared.MessageRead.TheVariants.{Read, Unreadable}
+use Rattle.refusal.specs.declared.Refusal.{Refusal}
+use Rattle.refusal.specs.declared.Refusal.TheVariants as refusal
 use Rattle.record.specs.WellFormed.{most_contents}
 use Rattle.record.specs.declared.Record.{Record}
 use Rattle.table.specs.Table.{same, found}
-use Rattle.table.specs.declared.Found.{Found}
-use Rattle.table.specs.declared.Found.TheVariants as search
 use Rattle.asking.specs.Asking.{wrapper_for, wrapper_asks, join_asks, message_asks, read_asks, asked_of}
 use Rattle.asking.specs.declared.Asked.{Asked}
 use Rattle.asking.specs.declared.Asked.TheVariants as asked
@@ -48,10 +48,10 @@ Says (message.Ack r) = Unit {0}
 Says (message.Nak m first last) = Unit {0}
 Says (message.GetSessions cid) = Unit {0}
 
-abbrev pub Brings : Asked → Type 0
-Brings (asked.Refused n) = Unit {0}
-Brings (asked.Join j) = Both j.total j.reliable
-Brings (asked.Wrapper i w) = Both w.total w.reliable
+abbrev pub Brings : Result Asked Refusal → Type 0
+Brings (Err why) = Unit {0}
+Brings (Ok (asked.Join j)) = Both j.total j.reliable
+Brings (Ok (asked.Wrapper i w)) = Both w.total w.reliable
 
 module _ (v : ℕ) (d : List ℕ) (o : Octets d) where
   pub wrapper_says : Both (wrapper_of d).total (wrapper_of d).reliable
@@ -76,9 +76,9 @@ module _ (v : ℕ) (d : List ℕ) (o : Octets d) where
       (either Says (eqb v unreliable_wrapper) _ _ wrapper_says (either Says (eqb v join) _ _ join_says fixed_says))
 
 module _ (ts : List Record) (s ours : Cid) where
-  wrapper_brings : (b : Bool) (w : Wrapper) (n : ℕ) (f : Found) → Both w.total w.reliable → Brings (wrapper_for f b w n)
-  wrapper_brings b w n search.Nowhere h = tt
-  wrapper_brings b w n (search.At i) h = either Brings (ltb most_contents n) _ _ tt h
+  wrapper_brings : (b : Bool) (w : Wrapper) (n : ℕ) (f : Option ℕ) → Both w.total w.reliable → Brings (wrapper_for f b w n)
+  wrapper_brings b w n None h = tt
+  wrapper_brings b w n (Some i) h = either Brings (ltb most_contents n) _ _ tt h
 
   message_brings : (m : Message) (n : ℕ) → Says m → Brings (message_asks ts s ours m n)
   unfolding wrapper_asks join_asks
@@ -96,6 +96,6 @@ module _ (ts : List Record) (s ours : Cid) where
   unfolding asked_of read_message
   asked_brings v d o = by (readable v d)
     where
-      by : (b : Bool) → Brings (read_asks ts s ours (cond b (Read (message_of v d)) Unreadable) (length (contents d)))
+      by : (b : Bool) → Brings (read_asks ts s ours (cond b (Ok (message_of v d)) (Err refusal.NoForm)) (length (contents d)))
       by true = message_brings (message_of v d) (length (contents d)) (message_says v d o)
       by false = tt

@@ -9,6 +9,7 @@ use native.Mathlib.Omega.{arith}
 use lib.Dec.{ltb, eqb}
 use lib.ListN.{length, replicate, length-replicate}
 use borrow.Author.Tests.{ltb-false, eqb-true, eq-eqb}
+use Rattle.std.specs.Prelude.{Option, Some, None, is_some, Result, Ok, Err}
 use Rattle.message.specs.Lengths.{reliable_wrapper, join}
 use Rattle.message.specs.Layouts.{cid_at, wrapper_of, join_of}
 use Rattle.message.specs.Reading.{readable, contents}
@@ -16,9 +17,11 @@ use Rattle.message.specs.declared.Cid.{Cid}
 use Rattle.message.specs.declared.Address.{Address}
 use Rattle.message.specs.declared.Address.TheVariants as address
 use Rattle.message.specs.declared.Join.{Join}
-use Rattle.record.specs.Reasons.{illegal_parameters}
+use Rattle.refusal.specs.declared.Refusal.{Refusal}
+use Rattle.refusal.specs.declared.Refusal.TheVariants as refusal
 use Rattle.record.specs.WellFormed.{most_contents}
 use Rattle.record.specs.declared.Record.{Record}
+use Rattle.record.specs.declared.reasons.Reason.TheVariants as reason
 use Rattle.wrapper.specs.Taken.{stepped}
 use Rattle.wrapper.specs.declared.Arrived.{Arrived}
 use Rattle.wrapper.specs.declared.Plan.{Plan}
@@ -26,8 +29,6 @@ use Rattle.joining.specs.Joining.{legal, existing_of, decide_at, decided, new_re
 use Rattle.joining.specs.declared.Decision.{Decision}
 use Rattle.joining.specs.declared.Decision.TheVariants as decision
 use Rattle.table.specs.Table.{same, named, found, lowest_free, table_formed, record_at}
-use Rattle.table.specs.declared.Found.{Found}
-use Rattle.table.specs.declared.Found.TheVariants as search
 use Rattle.table.proofs.Finding.{found_at_lem, free_at}
 use Rattle.table.proofs.Tables.{named_is, set_there, set_here}
 use Rattle.sending.specs.Sent.{reply_of, join_reply_of}
@@ -38,7 +39,7 @@ use Rattle.asking.specs.Asking.{arrived_of, wrapper_for, wrapper_asks, join_asks
 use Rattle.asking.specs.declared.Asked.{Asked}
 use Rattle.asking.specs.declared.Asked.TheVariants as asked
 use Rattle.member.specs.Sizes.{message_sizes, table_size, cid_size}
-use Rattle.member.specs.Messages.{Outcome, refused_message, existing_at, is_found, table_after, join_done, join_outcome, plan_outcome, wrapper_outcome, asked_outcome, message_outcome}
+use Rattle.member.specs.Messages.{Outcome, refused_message, existing_at, table_after, join_done, join_outcome, plan_outcome, stepped_outcome, wrapper_outcome, asked_outcome, message_outcome}
 use Rattle.demands.specs.Runs.{Came}
 use Rattle.demands.specs.Calls as calls
 use Rattle.demands.specs.Calls.{State, Answer, lent_as, message_came, table_step, Right}
@@ -83,7 +84,7 @@ module _ (s : State) (right : Right s) (held deliver reply : ℕ) (sender ours :
 
   -- a right table refuses nothing but sizes before it looks at what is asked
   message_comes : table_step s (calls.message held deliver reply sender ours v d n)
-      ≡ cond sizes (taken outcome) (record { state = s; answer = calls.message (refused_message s.table (lent_as held s.held) 1) })
+      ≡ cond sizes (taken outcome) (record { state = s; answer = calls.message (refused_message s.table (lent_as held s.held) refusal.WrongSize) })
   unfolding table_step message_outcome
   message_comes =
       ap (λ (b : Bool). came b) lengths ∙ by sizes refl
@@ -91,8 +92,8 @@ module _ (s : State) (right : Right s) (held deliver reply : ℕ) (sender ours :
       came : Bool → Came State Answer
       came b =
           message_came s held
-          (cond (not b) (refused_message s.table (lent_as held s.held) 1)
-          (cond (not (table_formed s.table)) (refused_message s.table (lent_as held s.held) 2)
+          (cond (not b) (refused_message s.table (lent_as held s.held) refusal.WrongSize)
+          (cond (not (table_formed s.table)) (refused_message s.table (lent_as held s.held) refusal.WrongTable)
           (asked_outcome s.table (lent_as held s.held) (cid_at sender 0) n (contents d) (asked_of s.table (cid_at sender 0) (cid_at ours 0) v d))))
 
       lengths : message_sizes (length s.table) (length (lent_as held s.held)) deliver reply (length sender) (length ours) ≡ sizes
@@ -100,24 +101,24 @@ module _ (s : State) (right : Right s) (held deliver reply : ℕ) (sender ours :
           ap₂ (λ (a b : ℕ). message_sizes a b deliver reply (length sender) (length ours)) right.eight (lent_length held s.held)
 
       by : (b : Bool) → sizes ≡ b
-          → came b ≡ cond b (taken outcome) (record { state = s; answer = calls.message (refused_message s.table (lent_as held s.held) 1) })
+          → came b ≡ cond b (taken outcome) (record { state = s; answer = calls.message (refused_message s.table (lent_as held s.held) refusal.WrongSize) })
       by true e =
           let q : held ≡ length s.held = (message_sizes_lem _ held deliver reply (length sender) (length ours) e).0 ∙ sym right.size in
           let t : eqb held (length s.held) ≡ true = eq-eqb held (length s.held) q in
           rw (right.formed, t)
       by false e =
           ap
-          (λ (h : List ℕ). record { state = record { table = s.table; held = h }; answer = calls.message (refused_message s.table (lent_as held s.held) 1) })
+          (λ (h : List ℕ). record { state = record { table = s.table; held = h }; answer = calls.message (refused_message s.table (lent_as held s.held) refusal.WrongSize) })
           (lent_back (eqb held (length s.held)) s.held (replicate held 0))
 
 -- ---- the channel's own messages
 
 -- the answer to a Join that meets a record does not depend on free ones
-decided_known : (j : Join) (r : Record) (n : ℕ) (free : Bool) → decided j (existing_of r) n free ≡ decided j (existing_of r) n true
+decided_known : (j : Join) (r : Record) (n : ℕ) (free : Bool) → decided j (Some (existing_of r)) n free ≡ decided j (Some (existing_of r)) n true
 unfolding decided
-decided_known j r n free = ap (λ (a : Decision). cond (legal j) a (decision.Refuse illegal_parameters)) (by j.address)
+decided_known j r n free = ap (λ (a : Decision). cond (legal j) a (decision.Refuse reason.IllegalParameters)) (by j.address)
   where
-    by : (a : Address) → decide_at a (existing_of r) j.mid n free ≡ decide_at a (existing_of r) j.mid n true
+    by : (a : Address) → decide_at a (Some (existing_of r)) j.mid n free ≡ decide_at a (Some (existing_of r)) j.mid n true
     by (address.Null p) = refl
     by (address.Ipv4 e p) = refl
     by (address.Other t) = refl
@@ -148,27 +149,19 @@ module _ (i : ℕ) (owner : Cid) (channel : ℕ) (s : State) (right : Right s) (
   step_own : (w : Arrived) (c : List ℕ) → w.len ≡ length c → length c ≤ most_contents
       → view_at i (taken (wrapper_outcome s.table s.held i w c)) ≡ by_step (channel_at i s) w c (stepped (record_at s.table i) w)
   unfolding wrapper_outcome view_at channel_at
-  step_own w c said most = by (eqb (stepped (record_at s.table i) w).number 0) refl
+  step_own w c said most = by (stepped (record_at s.table i) w) refl
     where
-      by : (b : Bool) → eqb (stepped (record_at s.table i) w).number 0 ≡ b
-          → view_at i
-          (taken
-          (cond b (plan_outcome s.table s.held i w c (stepped (record_at s.table i) w).plan)
-          (refused_message s.table s.held (stepped (record_at s.table i) w).number)))
-          ≡ cond b (planned (channel_at i s) w c (stepped (record_at s.table i) w).plan)
-          (stays (channel_at i s) (refused (stepped (record_at s.table i) w).number))
-      by true e =
-          plan_own w c (stepped (record_at s.table i) w).plan
-          (stepped_fits (record_at s.table i) w it.used (it.formed.each i) it.four (omega arith)
-          (eqb-true (stepped (record_at s.table i) w).number 0 e))
-          most
-      by false e = refl
+      by : (r : Result Plan Refusal) → stepped (record_at s.table i) w ≡ r
+          → view_at i (taken (stepped_outcome s.table s.held i w c r)) ≡ by_step (channel_at i s) w c r
+      by (Ok p) e =
+          plan_own w c p (stepped_fits (record_at s.table i) w it.used (it.formed.each i) it.four (omega arith) p e) most
+      by (Err why) e = refl
 
   wrapper_own : (v : ℕ) (d : List ℕ) (n : ℕ)
       → view_at i
       (taken
       (asked_outcome s.table s.held owner n (contents d)
-      (wrapper_for (search.At i) (eqb v reliable_wrapper) (wrapper_of d) (length (contents d)))))
+      (wrapper_for (Some i) (eqb v reliable_wrapper) (wrapper_of d) (length (contents d)))))
       ≡ wrapper_on (channel_at i s) v d
   unfolding wrapper_on view_at channel_at
   wrapper_own v d n = by (ltb most_contents (length (contents d))) refl
@@ -177,8 +170,8 @@ module _ (i : ℕ) (owner : Cid) (channel : ℕ) (s : State) (right : Right s) (
       w = arrived_of (eqb v reliable_wrapper) (wrapper_of d) (length (contents d))
 
       by : (b : Bool) → ltb most_contents (length (contents d)) ≡ b
-          → view_at i (taken (asked_outcome s.table s.held owner n (contents d) (cond b (asked.Refused 7) (asked.Wrapper i w))))
-          ≡ cond b (stays (channel_at i s) (refused 7)) (by_step (channel_at i s) w (contents d) (stepped (record_at s.table i) w))
+          → view_at i (taken (asked_outcome s.table s.held owner n (contents d) (cond b (Err refusal.ContentsOver) (Ok (asked.Wrapper i w)))))
+          ≡ cond b (stays (channel_at i s) (refused refusal.ContentsOver)) (by_step (channel_at i s) w (contents d) (stepped (record_at s.table i) w))
       by true e = refl
       by false e = step_own w (contents d) refl (ltb-false most_contents (length (contents d)) e)
 
@@ -187,16 +180,16 @@ module _ (i : ℕ) (owner : Cid) (channel : ℕ) (s : State) (right : Right s) (
       → record_at (table_after s.table o j n answer (lowest_free 0 s.table)) i ≡ record_at s.table i
   join_leaves o j n = by (lowest_free 0 s.table) refl
     where
-      by : (f : Found) → lowest_free 0 s.table ≡ f → (answer : Decision) → record_at (table_after s.table o j n answer f) i ≡ record_at s.table i
+      by : (f : Option ℕ) → lowest_free 0 s.table ≡ f → (answer : Decision) → record_at (table_after s.table o j n answer f) i ≡ record_at s.table i
       by f e (decision.Refuse reason) = refl
       by f e (decision.Again r reciprocal) = refl
-      by (search.At k) e (decision.Make p) =
+      by (Some k) e (decision.Make p) =
           set_there s.table k (new_record (record_at s.table k) o j p n) i
           (λ q. false≢true (sym (free_at s.table k e).1 ∙ ap (λ (m : ℕ). (record_at s.table m).used) q ∙ it.used))
-      by search.Nowhere e (decision.Make p) = refl
+      by None e (decision.Make p) = refl
 
   -- a Join that is answered so leaves the channel and answers so
-  join_done_lem : (o : Cid) (j : Join) (n : ℕ) (known : Found) (answer : Decision)
+  join_done_lem : (o : Cid) (j : Join) (n : ℕ) (known : Option ℕ) (answer : Decision)
       → view_at i (taken (join_done s.table s.held o j n known (lowest_free 0 s.table) answer))
       ≡ stays (channel_at i s) (joined answer (join_reply_of o j n answer))
   unfolding view_at channel_at
@@ -209,19 +202,19 @@ module _ (i : ℕ) (owner : Cid) (channel : ℕ) (s : State) (right : Right s) (
   join_own ours j n c ch = by (same j.cid (cid_at ours 0))
     where
       answer : Decision
-      answer = decided j (existing_of (record_at s.table i)) n true
+      answer = decided j (Some (existing_of (record_at s.table i))) n true
 
-      met : found 0 owner j.channel s.table ≡ search.At i
+      met : found 0 owner j.channel s.table ≡ Some i
       met = ap (λ (k : ℕ). found 0 owner k s.table) ch ∙ it.finds
 
-      decides : decided j (existing_at s.table (found 0 owner j.channel s.table)) n (is_found (lowest_free 0 s.table)) ≡ answer
+      decides : decided j (existing_at s.table (found 0 owner j.channel s.table)) n (is_some (lowest_free 0 s.table)) ≡ answer
       decides =
-          ap (λ (f : Found). decided j (existing_at s.table f) n (is_found (lowest_free 0 s.table))) met
-          ∙ decided_known j (record_at s.table i) n (is_found (lowest_free 0 s.table))
+          ap (λ (f : Option ℕ). decided j (existing_at s.table f) n (is_some (lowest_free 0 s.table))) met
+          ∙ decided_known j (record_at s.table i) n (is_some (lowest_free 0 s.table))
 
       by : (b : Bool)
-          → view_at i (taken (asked_outcome s.table s.held owner n c (cond b (asked.Join j) (asked.Refused 5))))
-          ≡ cond b (stays (channel_at i s) (joined answer (join_reply_of owner j n answer))) (stays (channel_at i s) (refused 5))
+          → view_at i (taken (asked_outcome s.table s.held owner n c (cond b (Ok (asked.Join j)) (Err refusal.NotForUs))))
+          ≡ cond b (stays (channel_at i s) (joined answer (join_reply_of owner j n answer))) (stays (channel_at i s) (refused refusal.NotForUs))
       by true =
           ap
           (λ (a : Decision).
@@ -236,15 +229,15 @@ module _ (i : ℕ) (owner : Cid) (channel : ℕ) (s : State) (right : Right s) (
       ≡ cond (is_wrapper v) (wrapper_on (channel_at i s) v d) (join_on (channel_at i s) owner ours (join_of d) n)
   unfolding wrapper_asks
   asked_own ours v d n (readable, inl (w, c)) =
-      ap (λ (a : Asked). view_at i (taken (asked_outcome s.table s.held owner n (contents d) a)))
+      ap (λ (a : Result Asked Refusal). view_at i (taken (asked_outcome s.table s.held owner n (contents d) a)))
       (asks_wrapper s.table owner (cid_at ours 0) v d readable w
-      ∙ ap (λ (f : Found). wrapper_for f (eqb v reliable_wrapper) (wrapper_of d) (length (contents d)))
+      ∙ ap (λ (f : Option ℕ). wrapper_for f (eqb v reliable_wrapper) (wrapper_of d) (length (contents d)))
       (ap (λ (k : ℕ). found 0 owner k s.table) c ∙ it.finds))
       ∙ wrapper_own v d n
       ∙ sym (when (is_wrapper v) _ _ w)
   asked_own ours v d n (readable, inr (e, c)) =
       let q : v ≡ join = eqb-true v join e in
-      ap (λ (a : Asked). view_at i (taken (asked_outcome s.table s.held owner n (contents d) a)))
+      ap (λ (a : Result Asked Refusal). view_at i (taken (asked_outcome s.table s.held owner n (contents d) a)))
       (asks_join s.table owner (cid_at ours 0) v d readable e)
       ∙ join_own ours (join_of d) n (contents d) c
       ∙ sym (ap (λ (u : ℕ). cond (is_wrapper u) (wrapper_on (channel_at i s) v d) (join_on (channel_at i s) owner ours (join_of d) n)) q)
@@ -264,9 +257,9 @@ module _ (i : ℕ) (owner : Cid) (channel : ℕ) (s : State) (right : Right s) (
         by : (b : Bool)
             → view_at i
             (cond b (taken (asked_outcome s.table s.held (cid_at sender 0) n (contents d) (asked_of s.table (cid_at sender 0) (cid_at ours 0) v d)))
-            (record { state = s; answer = calls.message (refused_message s.table (lent_as held s.held) 1) }))
+            (record { state = s; answer = calls.message (refused_message s.table (lent_as held s.held) refusal.WrongSize) }))
             ≡ cond b (cond (is_wrapper v) (wrapper_on (channel_at i s) v d) (join_on (channel_at i s) owner ours (join_of d) n))
-            (stays (channel_at i s) (refused 1))
+            (stays (channel_at i s) (refused refusal.WrongSize))
         by true =
             ap (λ (o : Cid). view_at i (taken (asked_outcome s.table s.held o n (contents d) (asked_of s.table o (cid_at ours 0) v d))))
             (sender_is owner sender mine.0)
@@ -286,7 +279,7 @@ module _ (i : ℕ) (owner : Cid) (channel : ℕ) (s : State) (right : Right s) (
 
     module _ (sized : length sender ≡ cid_size) (other : own owner channel (calls.message held deliver reply sender ours v d n) ≡ false) where
       -- a wrapper that meets record i is the channel's own
-      not_met : readable v d ≡ true → is_wrapper v ≡ true → found 0 (cid_at sender 0) (wrapper_of d).channel s.table ≢ search.At i
+      not_met : readable v d ≡ true → is_wrapper v ≡ true → found 0 (cid_at sender 0) (wrapper_of d).channel s.table ≢ Some i
       unfolding own
       not_met r w f =
           let m = meets i owner channel s right has (cid_at sender 0) (wrapper_of d).channel f in
@@ -296,31 +289,26 @@ module _ (i : ℕ) (owner : Cid) (channel : ℕ) (s : State) (right : Right s) (
           (is_sender owner sender sized m.0, wrapper_names channel v d r w m.1))
 
       -- a wrapper that meets record k
-      step_other : (k : ℕ) (w : Arrived) → found 0 (cid_at sender 0) (wrapper_of d).channel s.table ≡ search.At k → i ≢ k
+      step_other : (k : ℕ) (w : Arrived) → found 0 (cid_at sender 0) (wrapper_of d).channel s.table ≡ Some k → i ≢ k
           → w.len ≡ length (contents d) → length (contents d) ≤ most_contents
           → channel_at i (taken (wrapper_outcome s.table s.held k w (contents d))).state ≡ channel_at i s
       unfolding wrapper_outcome
-      step_other k w f z said most = by (eqb (stepped (record_at s.table k) w).number 0) refl
+      step_other k w f z said most = by (stepped (record_at s.table k) w) refl
         where
-          by : (b : Bool) → eqb (stepped (record_at s.table k) w).number 0 ≡ b
-              → channel_at i
-              (taken
-              (cond b (plan_outcome s.table s.held k w (contents d) (stepped (record_at s.table k) w).plan)
-              (refused_message s.table s.held (stepped (record_at s.table k) w).number))
-              ).state
-              ≡ channel_at i s
-          by true e =
+          by : (r : Result Plan Refusal) → stepped (record_at s.table k) w ≡ r
+              → channel_at i (taken (stepped_outcome s.table s.held k w (contents d) r)).state ≡ channel_at i s
+          by (Ok p) e =
               let met = found_at_lem (cid_at sender 0) (wrapper_of d).channel s.table k f in
               let below : k < 8 = omega (arith, met.0, right.eight) in
-              plan_other k w (contents d) (stepped (record_at s.table k) w).plan below z
+              plan_other k w (contents d) p below z
               (stepped_fits (record_at s.table k) w
               (named_is (cid_at sender 0) (wrapper_of d).channel (record_at s.table k) met.1).0
               (it.formed.each k)
               (right.sound k below).four
               (omega arith)
-              (eqb-true (stepped (record_at s.table k) w).number 0 e))
+              p e)
               most
-          by false e = refl
+          by (Err why) e = refl
 
       wrapper_other : readable v d ≡ true → is_wrapper v ≡ true
           → channel_at i
@@ -336,24 +324,24 @@ module _ (i : ℕ) (owner : Cid) (channel : ℕ) (s : State) (right : Right s) (
           w : Arrived
           w = arrived_of (eqb v reliable_wrapper) (wrapper_of d) (length (contents d))
 
-          on : (k : ℕ) → found 0 (cid_at sender 0) (wrapper_of d).channel s.table ≡ search.At k
+          on : (k : ℕ) → found 0 (cid_at sender 0) (wrapper_of d).channel s.table ≡ Some k
               → (b : Bool) → ltb most_contents (length (contents d)) ≡ b
               → channel_at i
-              (taken (asked_outcome s.table s.held (cid_at sender 0) n (contents d) (cond b (asked.Refused 7) (asked.Wrapper k w)))).state
+              (taken (asked_outcome s.table s.held (cid_at sender 0) n (contents d) (cond b (Err refusal.ContentsOver) (Ok (asked.Wrapper k w))))).state
               ≡ channel_at i s
           on k f true e = refl
           on k f false e =
-              step_other k w f (λ q. not_met r u (f ∙ ap search.At (sym q))) refl (ltb-false most_contents (length (contents d)) e)
+              step_other k w f (λ q. not_met r u (f ∙ ap Some (sym q))) refl (ltb-false most_contents (length (contents d)) e)
 
-          by : (f : Found) → found 0 (cid_at sender 0) (wrapper_of d).channel s.table ≡ f → (b : Bool) → ltb most_contents (length (contents d)) ≡ b
+          by : (f : Option ℕ) → found 0 (cid_at sender 0) (wrapper_of d).channel s.table ≡ f → (b : Bool) → ltb most_contents (length (contents d)) ≡ b
               → channel_at i
               (taken
               (asked_outcome s.table s.held (cid_at sender 0) n (contents d)
               (wrapper_for f (eqb v reliable_wrapper) (wrapper_of d) (length (contents d))))
               ).state
               ≡ channel_at i s
-          by search.Nowhere f b e = refl
-          by (search.At k) f b e = on k f (ltb most_contents (length (contents d))) refl
+          by None f b e = refl
+          by (Some k) f b e = on k f (ltb most_contents (length (contents d))) refl
 
       join_other : (j : Join)
           → channel_at i (taken (asked_outcome s.table s.held (cid_at sender 0) n (contents d) (join_asks (cid_at ours 0) j))).state
@@ -362,17 +350,17 @@ module _ (i : ℕ) (owner : Cid) (channel : ℕ) (s : State) (right : Right s) (
       join_other j = by (same j.cid (cid_at ours 0))
         where
           by : (b : Bool)
-              → channel_at i (taken (asked_outcome s.table s.held (cid_at sender 0) n (contents d) (cond b (asked.Join j) (asked.Refused 5)))).state
+              → channel_at i (taken (asked_outcome s.table s.held (cid_at sender 0) n (contents d) (cond b (Ok (asked.Join j)) (Err refusal.NotForUs)))).state
               ≡ channel_at i s
           by true =
               ap (λ (r : Record). record { at = r; held = slab i s.held })
               (join_leaves (cid_at sender 0) j n
-              (decided j (existing_at s.table (found 0 (cid_at sender 0) j.channel s.table)) n (is_found (lowest_free 0 s.table))))
+              (decided j (existing_at s.table (found 0 (cid_at sender 0) j.channel s.table)) n (is_some (lowest_free 0 s.table))))
           by false = refl
 
-      asked_other : (a : Asked) → Asks s.table (cid_at sender 0) (cid_at ours 0) v d a
+      asked_other : (a : Result Asked Refusal) → Asks s.table (cid_at sender 0) (cid_at ours 0) v d a
           → channel_at i (taken (asked_outcome s.table s.held (cid_at sender 0) n (contents d) a)).state ≡ channel_at i s
-      asked_other a (refuses k) = refl
+      asked_other a (refuses why) = refl
       asked_other a (joins r e) = join_other (join_of d)
       asked_other a (wraps r w) = wrapper_other r w
 
@@ -385,7 +373,7 @@ module _ (i : ℕ) (owner : Cid) (channel : ℕ) (s : State) (right : Right s) (
         by : (b : Bool) → message_sizes table_size held deliver reply (length sender) (length ours) ≡ b
             → channel_at i
             (cond b (taken (asked_outcome s.table s.held (cid_at sender 0) n (contents d) (asked_of s.table (cid_at sender 0) (cid_at ours 0) v d)))
-            (record { state = s; answer = calls.message (refused_message s.table (lent_as held s.held) 1) })
+            (record { state = s; answer = calls.message (refused_message s.table (lent_as held s.held) refusal.WrongSize) })
             ).state
             ≡ channel_at i s
         by true e =
