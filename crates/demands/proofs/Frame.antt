@@ -6,10 +6,12 @@ use mathlib.Core.List.{List, [], ◌∷◌}
 use mathlib.Core.Logic.{◌≢◌}
 use mathlib.Core.Path.{◌≡◌, refl, sym, ap}
 use lib.ListN.{length}
-use Rattle.std.specs.Prelude.{Option, Some, None}
+use Rattle.std.specs.Prelude.{Option, Some, None, Ok}
 use Rattle.message.specs.Layouts.{cid_at}
 use Rattle.message.specs.declared.Cid.{Cid}
 use Rattle.message.specs.declared.Join.{Join}
+use Rattle.refusal.specs.declared.Refusal.{Refusal}
+use Rattle.refusal.specs.declared.Refusal.TheVariants as refusal
 use Rattle.record.specs.Reasons.{leaving_reason}
 use Rattle.record.specs.declared.Record.{Record}
 use Rattle.gap.specs.Elapsed.{elapsed_of}
@@ -21,8 +23,8 @@ use Rattle.table.specs.Table.{found, table_formed, record_at}
 use Rattle.table.proofs.Tables.{set_there}
 use Rattle.carry.proofs.PlanFits.{taking}
 use Rattle.member.specs.Sizes.{leave_sizes}
-use Rattle.member.specs.Elapsing.{passing, passed}
-use Rattle.member.specs.Leaving.{refused_leave, departing, leave_for, leave_outcome}
+use Rattle.member.specs.Elapsing.{passing, passed_table}
+use Rattle.member.specs.Leaving.{Departing, refused_leave, departing, leave_for, leave_outcome}
 use Rattle.member.specs.Messages.{Outcome, refused_message, join_done, plan_outcome, message_outcome}
 use Rattle.demands.specs.Calls.{State, Right}
 use Rattle.demands.specs.Frame.{moved, Still}
@@ -34,8 +36,8 @@ module _ (s : State) (right : Right s) (k : ℕ) where
   abbrev Frame : Outcome → Type 0
   Frame out = moved out.given ≢ Some k → Still s.table s.held k out
 
-  refused_still : (number : ℕ) → Frame (refused_message s.table s.held number)
-  refused_still number z = record { at = refl; places = refl }
+  refused_still : (why : Refusal) → Frame (refused_message s.table s.held why)
+  refused_still why z = record { at = refl; places = refl }
 
   join_still : (c : Cid) (j : Join) (n : ℕ) (known free : Option ℕ) (d : Decision) → Frame (join_done s.table s.held c j n known free d)
   join_still c j n known free (decision.Refuse reason) z = record { at = refl; places = refl }
@@ -63,23 +65,24 @@ module _ (s : State) (right : Right s) (k : ℕ) where
 -- ---- leave and elapsed calls
 
 pub leave_frame : (ts : List Record) (reply : ℕ) (owner : List ℕ) (channel reason k : ℕ)
-    → ((leave_outcome ts reply owner channel reason).number ≡ 0 → (leave_outcome ts reply owner channel reason).at ≢ k)
+    → (leave_outcome ts reply owner channel reason).given ≢ Ok k
     → record_at (leave_outcome ts reply owner channel reason).table k ≡ record_at ts k
 unfolding leave_outcome departing
 leave_frame ts reply owner channel reason k =
     by (not (leave_sizes (length ts) reply (length owner))) (not (table_formed ts)) (found 0 (cid_at owner 0) channel ts) (leaving_reason reason) refl
   where
+    comes : Bool → Bool → Option ℕ → Departing
+    comes a b f = cond a (refused_leave ts refusal.WrongSize) (cond b (refused_leave ts refusal.WrongTable) (leave_for ts reason f))
+
     by : (a b : Bool) (f : Option ℕ) (c : Bool) → leaving_reason reason ≡ c
-        → ((cond a (refused_leave ts 1) (cond b (refused_leave ts 2) (leave_for ts reason f))).number ≡ 0
-        → (cond a (refused_leave ts 1) (cond b (refused_leave ts 2) (leave_for ts reason f))).at ≢ k)
-        → record_at (cond a (refused_leave ts 1) (cond b (refused_leave ts 2) (leave_for ts reason f))).table k ≡ record_at ts k
+        → (comes a b f).given ≢ Ok k → record_at (comes a b f).table k ≡ record_at ts k
     by true b f c e z = refl
     by false true f c e z = refl
     by false false None c e z = refl
     by false false (Some i) false e z = rw e
-    by false false (Some i) true e z = let y = rw e at z in rw e (set_there ts i _ k (y refl))
+    by false false (Some i) true e z = let y = rw e at z in rw e (set_there ts i _ k (λ q. y (ap Ok q)))
 
-pub elapsed_frame : (ts : List Record) (ms k : ℕ) → record_at (passed (passing ts ms)).table k ≡ (elapsed_of (record_at ts k) ms).after
+pub elapsed_frame : (ts : List Record) (ms k : ℕ) → record_at (passed_table (passing ts ms)) k ≡ (elapsed_of (record_at ts k) ms).after
 unfolding elapsed_of
 elapsed_frame [] ms k = refl
 elapsed_frame (r ∷ ts) ms zero = refl

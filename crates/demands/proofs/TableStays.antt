@@ -9,13 +9,15 @@ use native.Mathlib.Omega.{arith}
 use lib.Dec.{lit<, ltb, eqb}
 use lib.ListN.{length, set, replicate, length-set, length-map, get_or-replicate}
 use borrow.Author.Tests.{eqb-true}
-use Rattle.std.specs.Prelude.{Option, Some, None, is_some, Ok, Err}
+use Rattle.std.specs.Prelude.{Option, Some, None, is_some, Result, Ok, Err}
 use Rattle.octets.specs.Octets.{Octets}
 use Rattle.message.specs.Layouts.{cid_at}
 use Rattle.message.specs.Reading.{contents}
 use Rattle.message.specs.declared.Cid.{Cid}
 use Rattle.message.specs.declared.Join.{Join}
 use Rattle.message.specs.declared.Parameters.{Parameters}
+use Rattle.refusal.specs.declared.Refusal.{Refusal}
+use Rattle.refusal.specs.declared.Refusal.TheVariants as refusal
 use Rattle.record.specs.Reasons.{leaving_reason}
 use Rattle.record.specs.WellFormed.{most_contents, well_formed}
 use Rattle.record.specs.With.{freed}
@@ -28,6 +30,7 @@ use Rattle.gap.proofs.Moves.{Move, stands, expires, lost, goes_on, moves}
 use Rattle.gap.proofs.Stays.{elapsed_formed, terms_stay}
 use Rattle.wrapper.specs.Taken.{stepped}
 use Rattle.wrapper.specs.declared.Arrived.{Arrived}
+use Rattle.wrapper.specs.declared.Plan.{Plan}
 use Rattle.wrapper.proofs.Stays.{wrapper_stays}
 use Rattle.joining.specs.Joining.{decided, new_record}
 use Rattle.joining.specs.declared.Decision.{Decision}
@@ -43,13 +46,14 @@ use Rattle.asking.specs.Asking.{asked_of}
 use Rattle.asking.specs.declared.Asked.{Asked}
 use Rattle.asking.specs.declared.Asked.TheVariants as asked
 use Rattle.asking.proofs.Steps.{asked_wrapper}
-use Rattle.member.specs.Sizes.{table_size, held_size, deliver_size, reply_size, cid_size, message_sizes, elapsed_sizes, leave_sizes}
-use Rattle.member.specs.Messages.{Outcome, existing_at, is_some, table_after, refused_message, join_outcome, plan_outcome, wrapper_outcome, asked_outcome, message_outcome}
-use Rattle.member.specs.Elapsing.{longest, Passing, elapsed_outcome, passed}
+use Rattle.member.specs.Sizes.{table_size, held_size, message_sizes, elapsed_sizes, leave_sizes}
+use Rattle.member.specs.Messages.{Outcome, existing_at, table_after, refused_message, join_outcome, plan_outcome, stepped_outcome, wrapper_outcome, asked_outcome, message_outcome}
+use Rattle.member.specs.Elapsing.{longest, Passing, elapsed_outcome, passed_table}
 use Rattle.member.specs.Leaving.{Departing, leave_for, departing, leave_outcome}
 use Rattle.demands.specs.Calls as calls
 use Rattle.demands.specs.Calls.{Call, State, table_step, lent_as, Sound, Lawful, Right, Both}
 use Rattle.demands.proofs.Lemmas.Kept.{terms_kept}
+use Rattle.demands.proofs.Lemmas.Owned.{message_sizes_lem}
 use Rattle.record.proofs.Choices.{either, never}
 use Rattle.demands.proofs.Lemmas.Sounds.{sound_by, aside, taken_sound, elapsed_sound, made_sound}
 use Rattle.demands.proofs.Lemmas.Brought.{Brings, asked_brings}
@@ -149,12 +153,12 @@ module _ (each : Record → Elapsed) (past : (each (blank [])).after ≡ blank [
           goes_at : (k : ℕ) → Goes (record_at ts k) (record_at (after ts) k)
           goes_at k = rw (after_at ts k) (goes (record_at ts k) (t.formed.each k))
 
-elapsed_right : (ts : List Record) (cells ms : ℕ) → RightTable ts → RightTable (passed (elapsed_outcome ts cells ms)).table
+elapsed_right : (ts : List Record) (cells ms : ℕ) → RightTable ts → RightTable (passed_table (elapsed_outcome ts cells ms))
 unfolding elapsed_outcome elapsed_of
 elapsed_right ts cells ms t =
-    either (λ (p : Passing). RightTable (passed p).table) (not (elapsed_sizes (length ts) cells)) _ _ standing
-    (either (λ (p : Passing). RightTable (passed p).table) (not (table_formed ts)) _ _ standing
-    (either (λ (p : Passing). RightTable (passed p).table) (ltb longest ms) _ _ standing
+    either (λ (p : Passing). RightTable (passed_table p)) (not (elapsed_sizes (length ts) cells)) _ _ standing
+    (either (λ (p : Passing). RightTable (passed_table p)) (not (table_formed ts)) _ _ standing
+    (either (λ (p : Passing). RightTable (passed_table p)) (ltb longest ms) _ _ standing
     (after_right (λ r. elapsed_of r ms) refl (λ r. elapsed_goes r ms) (λ r. elapsed_sound r ms) ts t)))
   where
     standing : RightTable (map (λ e. e.after) (map (λ r. gives r event.Nothing) ts))
@@ -168,8 +172,8 @@ record Keeps (held : List ℕ) (out : Outcome) : Type 0 where
   size : length out.held ≡ length held
 
 module _ {ts : List Record} (t : RightTable ts) (held : List ℕ) where
-  refused_keeps : (n : ℕ) → Keeps held (refused_message ts held n)
-  refused_keeps n = record { table = t; size = refl }
+  refused_keeps : (why : Refusal) → Keeps held (refused_message ts held why)
+  refused_keeps why = record { table = t; size = refl }
 
   -- a Join that makes a record finds none of its owner and channel
   new_channel : (s : Cid) (j : Join) (n : ℕ) (p : Parameters) (free : Bool)
@@ -179,7 +183,7 @@ module _ {ts : List Record} (t : RightTable ts) (held : List ℕ) where
       found_nowhere s j.channel ts
       (by (found 0 s j.channel ts) ((accepted_new j (existing_at ts (found 0 s j.channel ts)) n free p).0 e).2)
     where
-      by : (f : Option ℕ) → existing_at ts f ≡ existing.Unknown → f ≡ None
+      by : (f : Option ℕ) → existing_at ts f ≡ None → f ≡ None
       by None u = refl
       by (Some i) u = never (cc)
 
@@ -216,17 +220,16 @@ module _ {ts : List Record} (t : RightTable ts) (held : List ℕ) where
       r = record_at ts i
 
       -- a step that is not refused
-      step_keeps : (stepped r w).number ≡ 0 → Keeps held (plan_outcome ts held i w c (stepped r w).plan)
+      step_keeps : (plan : Plan) → stepped r w ≡ Ok plan → Keeps held (plan_outcome ts held i w c plan)
       unfolding plan_outcome
-      step_keeps e =
+      step_keeps plan e =
           let s = sound_at t i within in
           let well = t.formed.each i in
-          let plan = (stepped r w).plan in
-          let same = stepped_taken r w e in
-          let after-formed = wrapper_stays r w well used s.four s.reliable (λ j u. s.held j) b.1 fits in
+          let same = stepped_taken r w plan e in
+          let after-formed = wrapper_stays r w well used s.four s.reliable (λ j u. s.held j) b.1 fits plan e in
           let same-terms : plan.after.terms ≡ r.terms = rw same (terms_kept r w) in
           let after-sound : Sound plan.after = rw same (taken_sound r w s b) in
-          let plan_fits = stepped_fits r w used well s.four fits e in
+          let plan_fits = stepped_fits r w used well s.four fits plan e in
           let eight : length ts ≡ 8 = t.eight in
           record {
             table =
@@ -238,51 +241,37 @@ module _ {ts : List Record} (t : RightTable ts) (held : List ℕ) where
 
       wrapper_keeps : Keeps held (wrapper_outcome ts held i w c)
       unfolding wrapper_outcome
-      wrapper_keeps = by (eqb (stepped r w).number 0) refl
+      wrapper_keeps = by (stepped r w) refl
         where
-          by : (x : Bool) → eqb (stepped r w).number 0 ≡ x
-              → Keeps held (cond x (plan_outcome ts held i w c (stepped r w).plan) (refused_message ts held (stepped r w).number))
-          by true e = step_keeps (eqb-true (stepped r w).number 0 e)
-          by false e = refused_keeps (stepped r w).number
+          by : (o : Result Plan Refusal) → stepped r w ≡ o → Keeps held (stepped_outcome ts held i w c o)
+          by (Ok plan) e = step_keeps plan e
+          by (Err why) e = refused_keeps why
 
-  asked_keeps : (s o : Cid) (v : ℕ) (d : List ℕ) (n : ℕ) → length held ≡ held_size → (a : Asked) → asked_of ts s o v d ≡ a → Brings a
+  asked_keeps : (s o : Cid) (v : ℕ) (d : List ℕ) (n : ℕ) → length held ≡ held_size → (a : Result Asked Refusal) → asked_of ts s o v d ≡ a → Brings a
       → Keeps held (asked_outcome ts held s n (contents d) a)
-  asked_keeps s o v d n room (Err why) e b = refused_keeps number
+  asked_keeps s o v d n room (Err why) e b = refused_keeps why
   asked_keeps s o v d n room (Ok (asked.Join j)) e b = join_keeps s j n b
   asked_keeps s o v d n room (Ok (asked.Wrapper i w)) e b =
       let step = asked_wrapper ts s o i w v d e in
       wrapper_keeps i w (contents d) step.within step.used step.len step.fits room b
-
-  -- of the sizes that are lent
-  held_is : (deliver reply : ℕ) (sender ours : ℕ) → message_sizes (length ts) (length held) deliver reply sender ours ≡ true
-      → length held ≡ held_size
-  unfolding message_sizes
-  held_is deliver reply sender ours e =
-      eqb-true (length held) held_size
-      (second (eqb (length ts) table_size) (eqb (length held) held_size) (eqb deliver deliver_size) (eqb reply reply_size) (eqb sender cid_size) (eqb ours cid_size) e)
-    where
-      second : (a b c d f g : Bool) → a && b && c && d && f && g ≡ true → b ≡ true
-      second a true c d f g h = refl
-      second true false c d f g h = h
-      second false false c d f g h = h
 
   message_keeps : (deliver reply : ℕ) (sender ours : List ℕ) (v : ℕ) (d : List ℕ) (n : ℕ) → Octets d
       → Keeps held (message_outcome ts held deliver reply sender ours v d n)
   unfolding message_outcome
   message_keeps deliver reply sender ours v d n o = by _ refl
     where
-      asks : Asked
+      asks : Result Asked Refusal
       asks = asked_of ts (cid_at sender 0) (cid_at ours 0) v d
 
       out : Outcome
       out = asked_outcome ts held (cid_at sender 0) n (contents d) asks
 
       by : (x : Bool) → message_sizes (length ts) (length held) deliver reply (length sender) (length ours) ≡ x
-          → Keeps held (cond (not x) (refused_message ts held 1) (cond (not (table_formed ts)) (refused_message ts held 2) out))
-      by false e = refused_keeps 1
+          → Keeps held (cond (not x) (refused_message ts held refusal.WrongSize) (cond (not (table_formed ts)) (refused_message ts held refusal.WrongTable) out))
+      by false e = refused_keeps refusal.WrongSize
       by true e =
-          either (Keeps held) (not (table_formed ts)) (refused_message ts held 2) out (refused_keeps 2)
-          (asked_keeps (cid_at sender 0) (cid_at ours 0) v d n (held_is deliver reply _ _ e) asks refl
+          either (Keeps held) (not (table_formed ts)) (refused_message ts held refusal.WrongTable) out (refused_keeps refusal.WrongTable)
+          (asked_keeps (cid_at sender 0) (cid_at ours 0) v d n (message_sizes_lem _ _ deliver reply _ _ e).0 asks refl
           (asked_brings ts (cid_at sender 0) (cid_at ours 0) v d o))
 
 -- ---- every call

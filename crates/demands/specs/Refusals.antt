@@ -1,10 +1,11 @@
 -- When a call over the table is refused and by which number (01, "Refusal numbers, in order of checking"): each condition by itself, the order in which each
 -- call checks them, and what stands after a refusal. None of it looks at how the calls decide.
 use Rattle.std.specs.Prelude as option
-use Rattle.std.specs.Prelude.{ℕ, Bool, true, false, cond, not, ◌&&◌, ◌||◌, List, [], ◌∷◌, Option, Some, is_some, Result, Ok, Err, ltb, eqb, length}
+use Rattle.std.specs.Prelude.{ℕ, Bool, true, false, cond, not, ◌&&◌, ◌||◌, List, [], ◌∷◌, Option, Some, is_some, Result, Ok, Err, ◌≡◌, ltb, eqb, length}
 use Rattle.message.specs.Lengths.{reliable_wrapper, unreliable_wrapper, join, ack}
 use Rattle.message.specs.Layouts.{cid_at, wrapper_of, join_of}
 use Rattle.message.specs.Reading.{readable, contents}
+use Rattle.refusal.specs.Numbers.{number_of}
 use Rattle.refusal.specs.declared.Refusal.{Refusal}
 use Rattle.refusal.specs.declared.Refusal.TheVariants as refusal
 use Rattle.record.specs.Reasons.{leaving_reason}
@@ -113,8 +114,12 @@ leave_checks ts reply owner channel reason =
     ∷ check 10 (not (leaving_reason reason))
     ∷ []
 
--- ---- what stands after a refusal: the refusal alone is answered, and every lent octet is as before. (The table went in by value, so the caller has its own;
--- that the call's outcome has the same one, the theorems say beside this.)
+-- ---- what stands after a refusal: the refusal alone is answered, and every lent octet is as before. (The table went in by value, so the caller has it still; the
+-- theorems say beside this that what the call comes to has the same table.)
+
+-- a refusal by this number, and what P says of it
+abbrev pub RefusedBy : ℕ → (Refusal → Type 0) → Type 0
+RefusedBy n P = (why : Refusal) × (number_of why ≡ n) × P why
 
 abbrev pub message_stands : List ℕ → List ℕ → List ℕ → Refusal → MessageEnds
 message_stands held deliver reply why = record { answer = Err why; held = held; deliver = deliver; reply = reply }
