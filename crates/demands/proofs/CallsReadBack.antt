@@ -9,7 +9,7 @@ use mathlib.Core.Path.{◌≡◌, refl, sym, subst}
 use lib.Dec.{ltb, eqb, lit<}
 use lib.ListN.{length, replicate, get_or-map}
 use borrow.Author.Tests.{eqb-true}
-use Rattle.std.specs.Prelude.{Option, Some, None, is_some}
+use Rattle.std.specs.Prelude.{Option, Some, None, is_some, Result, Ok, Err}
 use Rattle.octets.specs.Octets.{number, Octets as Bytes}
 use Rattle.message.specs.Lengths.{reliable_wrapper}
 use Rattle.message.specs.Layouts.{cid_at, wrapper_of, join_of, reliable}
@@ -17,6 +17,8 @@ use Rattle.message.specs.Reading.{contents}
 use Rattle.message.specs.declared.Cid.{Cid}
 use Rattle.message.specs.declared.Join.{Join}
 use Rattle.message.specs.declared.Wrapper.{Wrapper}
+use Rattle.refusal.specs.declared.Refusal.{Refusal}
+use Rattle.refusal.specs.declared.Refusal.TheVariants as refusal
 use Rattle.record.specs.Reasons.{leaving_reason}
 use Rattle.record.specs.WellFormed.{most_contents}
 use Rattle.record.specs.declared.Record.{Record}
@@ -38,7 +40,7 @@ use Rattle.carry.proofs.DeliveredLength.{each_at}
 use Rattle.asking.specs.Asking.{arrived_of, wrapper_for, wrapper_asks, join_asks}
 use Rattle.asking.specs.declared.Asked.{Asked}
 use Rattle.member.specs.Sizes.{deliver_size, reply_size, message_sizes, elapsed_sizes, leave_sizes, cells_size}
-use Rattle.member.specs.Messages.{Outcome, refused_message, existing_at, is_some, join_outcome, plan_outcome, wrapper_outcome, asked_outcome, message_outcome}
+use Rattle.member.specs.Messages.{Outcome, refused_message, existing_at, join_outcome, plan_outcome, stepped_outcome, wrapper_outcome, asked_outcome, message_outcome}
 use Rattle.member.specs.Elapsing.{longest, Passing, refused_elapsed, passing, elapsed_outcome, sent_by}
 use Rattle.member.specs.Leaving.{Departing, refused_leave, departing, leave_for, leave_outcome}
 use Rattle.demands.specs.Calls.{Sound, Both}
@@ -73,30 +75,28 @@ module _ (ts : List Record) (wide : Wide ts) (held : List ℕ) (o : Cid) (n : �
   step_reads : (j : Join) (k : ℕ) (w : Arrived) (c : List ℕ) → k < length ts → Both w.total w.reliable
       → Reads ts o j n (wrapper_outcome ts held k w c)
   unfolding wrapper_outcome plan_outcome
-  step_reads j k w c l b = by (eqb (stepped (record_at ts k) w).number 0) refl
+  step_reads j k w c l b = by (stepped (record_at ts k) w) refl
     where
-      by : (x : Bool) → eqb (stepped (record_at ts k) w).number 0 ≡ x
-          → Reads ts o j n
-          (cond x (plan_outcome ts held k w c (stepped (record_at ts k) w).plan) (refused_message ts held (stepped (record_at ts k) w).number))
-      by true e =
+      by : (r : Result Plan Refusal) → stepped (record_at ts k) w ≡ r → Reads ts o j n (stepped_outcome ts held k w c r)
+      by (Ok plan) e =
           subst (λ (p : Plan). ReadFrom (reply_of p.after.terms p.reply) 0 (reply_means (record_at ts k).terms p.reply))
-          (sym (stepped_taken (record_at ts k) w (eqb-true (stepped (record_at ts k) w).number 0 e)))
+          (sym (stepped_taken (record_at ts k) w plan e))
           (step_reply_read (record_at ts k) w (wide k l).0 (wide k l).1 b)
-      by false e = none_read
+      by (Err why) e = none_read
 
   wrapper_reads : (j : Join) (reliably : Bool) (w : Wrapper) (len : ℕ) (c : List ℕ) → Both w.total w.reliable
       → (f : Option ℕ) → found 0 o w.channel ts ≡ f → Reads ts o j n (asked_outcome ts held o n c (wrapper_for f reliably w len))
   wrapper_reads j reliably w len c b None e = none_read
   wrapper_reads j reliably w len c b (Some k) e =
-      either (λ (a : Asked). Reads ts o j n (asked_outcome ts held o n c a)) (ltb most_contents len) _ _ none_read
+      either (λ (a : Result Asked Refusal). Reads ts o j n (asked_outcome ts held o n c a)) (ltb most_contents len) _ _ none_read
       (step_reads j k (arrived_of reliably w len) c (found_at_lem o w.channel ts k e).0 b)
 
-  asked_reads : (ours : Cid) (v : ℕ) (d : List ℕ) → Bytes d → FitAsked o (join_of d) → Octets 2 n → {a : Asked} → Asks ts o ours v d a
+  asked_reads : (ours : Cid) (v : ℕ) (d : List ℕ) → Bytes d → FitAsked o (join_of d) → Octets 2 n → {a : Result Asked Refusal} → Asks ts o ours v d a
       → Reads ts o (join_of d) n (asked_outcome ts held o n (contents d) a)
   unfolding join_asks wrapper_asks
-  asked_reads ours v d b f g (asks.refuses k) = none_read
+  asked_reads ours v d b f g (asks.refuses why) = none_read
   asked_reads ours v d b f g (asks.joins r e) =
-      either (λ (a : Asked). Reads ts o (join_of d) n (asked_outcome ts held o n (contents d) a)) (same (join_of d).cid ours) _ _
+      either (λ (a : Result Asked Refusal). Reads ts o (join_of d) n (asked_outcome ts held o n (contents d) a)) (same (join_of d).cid ours) _ _
       (join_reads (join_of d) f g)
       none_read
   asked_reads ours v d b f g (asks.wraps r w) =
@@ -123,8 +123,8 @@ pub elapsed_sends : (ts : List Record) (cells ms i : ℕ) → Wide ts → i < le
     (event_means (record_at ts i).terms (entry_at (elapsed_outcome ts cells ms) i).event)
 unfolding elapsed_outcome elapsed_of event_of
 elapsed_sends ts cells ms i wide l =
-    either Sent (not (elapsed_sizes (length ts) cells)) _ _ (stands 1)
-    (either Sent (not (table_formed ts)) _ _ (stands 2) (either Sent (ltb longest ms) _ _ (stands 3) goes))
+    either Sent (not (elapsed_sizes (length ts) cells)) _ _ (stands refusal.WrongSize)
+    (either Sent (not (table_formed ts)) _ _ (stands refusal.WrongTable) (either Sent (ltb longest ms) _ _ (stands refusal.TooMuchTime) goes))
   where
     Of : Elapsed → Type 0
     Of e = ReadFrom (sent_by e) 0 (event_means (record_at ts i).terms e.event)
@@ -132,8 +132,8 @@ elapsed_sends ts cells ms i wide l =
     Sent : Passing → Type 0
     Sent p = Of (entry_at p i)
 
-    stands : (k : ℕ) → Sent (refused_elapsed ts k)
-    stands k = subst Of (sym (get_or-map (λ (r : Record). gives r event.Nothing) ts i (blank []))) none_read
+    stands : (why : Refusal) → Sent (refused_elapsed ts why)
+    stands why = subst Of (sym (get_or-map (λ (r : Record). gives r event.Nothing) ts i (blank []))) none_read
 
     goes : Sent (passing ts ms)
     goes =
@@ -143,16 +143,16 @@ elapsed_sends ts cells ms i wide l =
 -- ---- leave calls
 
 pub leave_replies : (ts : List Record) (reply : ℕ) (owner : List ℕ) (channel reason : ℕ) → Wide ts
-    → ReadFrom (leave_outcome ts reply owner channel reason).reply 0 (leave_means ts reason (leave_outcome ts reply owner channel reason))
+    → ReadFrom (leave_outcome ts reply owner channel reason).reply 0 (leave_means ts reason (leave_outcome ts reply owner channel reason).given)
 unfolding leave_outcome departing
 leave_replies ts reply owner channel reason wide =
     either Sent (not (leave_sizes (length ts) reply (length owner))) _ _ none_read
     (either Sent (not (table_formed ts)) _ _ none_read (by (found 0 (cid_at owner 0) channel ts) refl))
   where
     Sent : Departing → Type 0
-    Sent p = ReadFrom p.reply 0 (leave_means ts reason p)
+    Sent p = ReadFrom p.reply 0 (leave_means ts reason p.given)
 
-    on : (i : ℕ) → i < length ts → (b : Bool) → leaving_reason reason ≡ b → Sent (cond b (departing ts i reason) (refused_leave ts 10))
+    on : (i : ℕ) → i < length ts → (b : Bool) → leaving_reason reason ≡ b → Sent (cond b (departing ts i reason) (refused_leave ts refusal.WrongReason))
     on i l true e = leave_read (record_at ts i) reason (wide i l).0 (wide i l).1 e
     on i l false e = none_read
 

@@ -16,7 +16,7 @@ use native.Mathlib.Omega.{arith}
 use lib.Dec.{ltb, eqb, lit≤, lit<}
 use lib.IntN.{pos}
 use lib.ListN.{length, get_or, take, set, replicate}
-use Rattle.std.specs.Prelude.{Option, Some, None, is_some}
+use Rattle.std.specs.Prelude.{Option, Some, None}
 use Rattle.octets.specs.Octets.{number}
 use Rattle.counter.specs.Distance.{turn, ahead, distance}
 use Rattle.counter.specs.Steps.{next}
@@ -59,7 +59,7 @@ use Rattle.carry.proofs.PlanFits.{taking}
 use Rattle.asking.specs.Asking.{arrived_of, wrapper_for, wrapper_asks, join_asks, asked_of}
 use Rattle.asking.specs.declared.Asked.{Asked}
 use Rattle.member.specs.Sizes.{table_size, held_size, deliver_size, reply_size, message_sizes}
-use Rattle.member.specs.Messages.{Outcome, refused_message, existing_at, is_some, join_done, join_outcome, plan_outcome, wrapper_outcome, asked_outcome, message_outcome}
+use Rattle.member.specs.Messages.{Outcome, refused_message, existing_at, join_done, join_outcome, plan_outcome, wrapper_outcome, asked_outcome, message_outcome}
 use Rattle.member.specs.declared.Given.TheVariants as given
 use Rattle.demands.specs.Runs.{Came, run, own_of, shown, Each, none, more}
 use Rattle.demands.specs.Calls as calls
@@ -263,12 +263,12 @@ module _ (ts : List Record) (i : ℕ) (p : Parameters) where
   -- record i was made by this Join: it is the one of the table, and the one that is told of
   abbrev Made : Cid → Join → ℕ → Outcome → Type 0
   Made o j n out =
-      out.given ≡ given.Joined (Some i) (decision.Make p)
+      out.given ≡ Ok (given.Joined (Some i) (decision.Make p))
       → (out.table ≡ set ts i (new_record (record_at ts i) o j p n)) × (i < length ts)
 
   module _ (held : List ℕ) (o : Cid) (j : Join) (n : ℕ) where
-    refused_made : (k : ℕ) → Made o j n (refused_message ts held k)
-    refused_made k e = never (cc)
+    refused_made : (why : Refusal) → Made o j n (refused_message ts held why)
+    refused_made why e = never (cc)
 
     join_made : (known free : Option ℕ) (answer : Decision) → lowest_free 0 ts ≡ free → Made o j n (join_done ts held o j n known free answer)
     join_made known free (decision.Refuse reason) f e = never (cc)
@@ -281,27 +281,26 @@ module _ (ts : List Record) (i : ℕ) (p : Parameters) where
 
     plan_made : (k : ℕ) (w : Arrived) (c : List ℕ) → Made o j n (wrapper_outcome ts held k w c)
     unfolding wrapper_outcome plan_outcome
-    plan_made k w c =
-        either (Made o j n) (eqb (stepped (record_at ts k) w).number 0)
-        (plan_outcome ts held k w c (stepped (record_at ts k) w).plan)
-        (refused_message ts held (stepped (record_at ts k) w).number)
-        (λ e. never (cc))
-        (refused_made (stepped (record_at ts k) w).number)
+    plan_made k w c = by (stepped (record_at ts k) w)
+      where
+        by : (r : Result Plan Refusal) → Made o j n (stepped_outcome ts held k w c r)
+        by (Ok plan) e = never (cc)
+        by (Err why) = refused_made why
 
     wrapper_made : (f : Option ℕ) (b : Bool) (w : Wrapper) (len : ℕ) (c : List ℕ) → Made o j n (asked_outcome ts held o n c (wrapper_for f b w len))
-    wrapper_made None b w len c = refused_made 6
+    wrapper_made None b w len c = refused_made refusal.NoRecord
     wrapper_made (Some k) b w len c =
-        either (λ (a : Asked). Made o j n (asked_outcome ts held o n c a)) (ltb most_contents len) _ _ (refused_made 7) (plan_made k (arrived_of b w len) c)
+        either (λ (a : Result Asked Refusal). Made o j n (asked_outcome ts held o n c a)) (ltb most_contents len) _ _ (refused_made refusal.ContentsOver) (plan_made k (arrived_of b w len) c)
 
-  asked_made : (held : List ℕ) (o ours : Cid) (v : ℕ) (d : List ℕ) (n : ℕ) {a : Asked} → Asks ts o ours v d a
+  asked_made : (held : List ℕ) (o ours : Cid) (v : ℕ) (d : List ℕ) (n : ℕ) {a : Result Asked Refusal} → Asks ts o ours v d a
       → Made o (join_of d) n (asked_outcome ts held o n (contents d) a)
   unfolding join_asks join_outcome wrapper_asks
-  asked_made held o ours v d n (asks.refuses k) = refused_made held o (join_of d) n k
+  asked_made held o ours v d n (asks.refuses why) = refused_made held o (join_of d) n why
   asked_made held o ours v d n (asks.joins r e) =
-      either (λ (a : Asked). Made o (join_of d) n (asked_outcome ts held o n (contents d) a)) (same (join_of d).cid ours) _ _
+      either (λ (a : Result Asked Refusal). Made o (join_of d) n (asked_outcome ts held o n (contents d) a)) (same (join_of d).cid ours) _ _
       (join_made held o (join_of d) n (found 0 o (join_of d).channel ts) (lowest_free 0 ts)
       (decided (join_of d) (existing_at ts (found 0 o (join_of d).channel ts)) n (is_some (lowest_free 0 ts))) refl)
-      (refused_made held o (join_of d) n 5)
+      (refused_made held o (join_of d) n refusal.NotForUs)
   asked_made held o ours v d n (asks.wraps r w) =
       wrapper_made held o (join_of d) n (found 0 o (wrapper_of d).channel ts) (eqb v reliable_wrapper) (wrapper_of d) (length (contents d)) (contents d)
 
@@ -311,9 +310,9 @@ module _ (ts : List Record) (i : ℕ) (p : Parameters) where
   message_made held deliver reply sender ours v d n =
       let o = cid_at sender 0 in
       either (Made o (join_of d) n) (not (message_sizes (length ts) (length held) deliver reply (length sender) (length ours))) _ _
-      (refused_made held o (join_of d) n 1)
+      (refused_made held o (join_of d) n refusal.WrongSize)
       (either (Made o (join_of d) n) (not (table_formed ts)) _ _
-      (refused_made held o (join_of d) n 2)
+      (refused_made held o (join_of d) n refusal.WrongTable)
       (asked_made held o (cid_at ours 0) v d n (asks.asks ts o (cid_at ours 0) v d)))
 
 -- the state that such a call leads to, and T and R of its record
@@ -390,7 +389,7 @@ join_call = calls.message held_size deliver_size reply_size (sample.cid 3 4) (re
 -- it is made in the lowest free record
 pub makes_with : (lent : List ℕ) → length lent ≡ held_size
     → (message_outcome (sample.table_of sample.free) lent deliver_size reply_size (sample.cid 3 4) (replicate 16 0) 4 sample.join_data 9).given
-    ≡ given.Joined (Some 0) (decision.Make (parameters_at sample.join_data 31))
+    ≡ Ok (given.Joined (Some 0) (decision.Make (parameters_at sample.join_data 31)))
 unfolding message_outcome message_sizes asked_of read_message readable readable_join length_of look message_of join_of address_of parameters_at join_asks join_outcome
     found lowest_free named same cid_at number decided decide_new legal legal_block legal_names legal_parameters min_expiry
 makes_with lent l = rw (l, (sample.joined_one).right.formed)

@@ -10,7 +10,7 @@ use mathlib.Core.Bool.{true}
 use native.Mathlib.Omega.{arith}
 use lib.ListN.{length, replicate, get_or}
 use lib.Dec.{lit<}
-use Rattle.std.specs.Prelude.{Some}
+use Rattle.std.specs.Prelude.{Option, Some}
 use Rattle.octets.specs.Octets.{part, number}
 use Rattle.counter.specs.Distance.{distance}
 use Rattle.message.specs.Lengths.{reliable_wrapper, look, length_of}
@@ -29,9 +29,9 @@ use Rattle.carry.specs.Carried.{from_place, delivered_by, Delivered}
 use Rattle.asking.specs.Asking.{wrapper_asks, asked_of}
 use Rattle.member.specs.Sizes.{deliver_size, reply_size, message_sizes, elapsed_sizes, leave_sizes, held_size}
 use Rattle.member.specs.Messages.{message_outcome, message_end, Outcome, deliver_after, wrapper_outcome, plan_outcome}
-use Rattle.member.specs.Elapsing.{elapsed_outcome, elapsed_end}
+use Rattle.member.specs.Elapsing.{elapsed_outcome, passed_table, elapsed_end}
 use Rattle.member.specs.Leaving.{leave_outcome, leave_end}
-use Rattle.demands.specs.Refusals.{first_number, message_checks, elapsed_checks, leave_checks, message_stands, elapsed_stands, leave_stands}
+use Rattle.demands.specs.Refusals.{first_number, message_checks, elapsed_checks, leave_checks, RefusedBy, message_stands, elapsed_stands, leave_stands}
 use Rattle.demands.proofs.Refusals.{message_leaves, elapsed_leaves, leave_leaves}
 use Rattle.demands.specs.Frame.{moved, Still}
 use Rattle.demands.proofs.Frame.{message_frame}
@@ -50,7 +50,10 @@ unfolding first_number message_sizes free_table
 wrong_size deliver reply sender ours v d = refl
 
 refused_message_lem : (deliver reply sender ours : List ℕ) (v : ℕ) (d : List ℕ) (n : ℕ)
-    → message_end (message_outcome free_table [] (length deliver) (length reply) sender ours v d n) deliver reply ≡ message_stands free_table [] deliver reply 1
+    → RefusedBy 1
+    (λ why.
+    (message_end (message_outcome free_table [] (length deliver) (length reply) sender ours v d n) deliver reply ≡ message_stands [] deliver reply why)
+    × ((message_outcome free_table [] (length deliver) (length reply) sender ours v d n).table ≡ free_table))
 refused_message_lem deliver reply sender ours v d n =
     rw (wrong_size deliver reply sender ours v d) at
     (message_leaves free_table [] deliver reply sender ours v d n (λ e. absurd (omega (arith, sym (wrong_size deliver reply sender ours v d) ∙ e))))
@@ -59,7 +62,11 @@ too_long_lem : first_number (elapsed_checks free_table 512 1001) ≡ 3
 unfolding first_number elapsed_sizes free_table table_formed
 too_long_lem = rw free_table_formed
 
-refused_elapsed_lem : (cells : List ℕ) → length cells ≡ 512 → elapsed_end (elapsed_outcome free_table (length cells) 1001) cells ≡ elapsed_stands free_table cells 3
+refused_elapsed_lem : (cells : List ℕ) → length cells ≡ 512
+    → RefusedBy 3
+    (λ why.
+    (elapsed_end (elapsed_outcome free_table (length cells) 1001) cells ≡ elapsed_stands cells why)
+    × (passed_table (elapsed_outcome free_table (length cells) 1001) ≡ free_table))
 refused_elapsed_lem cells l =
     let three : first_number (elapsed_checks free_table (length cells) 1001) ≡ 3 = rw l too_long_lem in
     rw three at (elapsed_leaves free_table cells 1001 (λ e. absurd (omega (arith, sym three ∙ e))))
@@ -69,14 +76,17 @@ unfolding first_number leave_sizes found named free_table table_formed
 nobody = rw free_table_formed
 
 refused_leave_lem : (reply : List ℕ) → length reply ≡ 64
-    → leave_end (leave_outcome free_table (length reply) (replicate 16 0) 7 1) reply ≡ leave_stands free_table reply 6
+    → RefusedBy 6
+    (λ why.
+    (leave_end (leave_outcome free_table (length reply) (replicate 16 0) 7 1) reply ≡ leave_stands reply why)
+    × ((leave_outcome free_table (length reply) (replicate 16 0) 7 1).table ≡ free_table))
 refused_leave_lem reply l =
     let six : first_number (leave_checks free_table (length reply) (replicate 16 0) 7 1) ≡ 6 = rw l nobody in
     rw six at (leave_leaves free_table reply (replicate 16 0) 7 1 (λ e. absurd (omega (arith, sym six ∙ e))))
 
 -- ---- a call that moves one record
 
-not_two : Some 0 ≢ Some 2
+not_two : ◌≢◌ {A = Option ℕ} (Some 0) (Some 2)
 not_two e = never (cc)
 
 -- the second owner's Join makes record 0; record 2, with the first owner's channel, stands

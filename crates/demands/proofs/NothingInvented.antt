@@ -86,7 +86,7 @@ held_reliable r w j e = by (next_one (heard r w.reliable) w) w.reliably refl e
     by : (next reliably : Bool) → w.reliably ≡ reliably
         → (cond next
         (record { after = with_numbers h w.total w.reliable; fate = fate.Delivered })
-        (put_in h w (cond reliably (cond (holds w.reliable h.places) None (lowest_free 0 h.places)) None))
+        (put_in h w (cond reliably (cond (holds w.reliable h.places) None (lowest_free h.places)) None))
         ).fate
         ≡ fate.Held j
         → w.reliably ≡ true

@@ -127,7 +127,7 @@ module _ (s : State) (right : Right s) (deliver reply : ℕ) (sender ours : List
   module _ (a : Messaged) (answered : messaged (message_outcome s.table s.held deliver reply sender ours v d n) ≡ Ok a) where
     -- the answer of a call that is accepted counts the deliveries that the call made
     pub deliveries_counted : a.count ≡ length (message_outcome s.table s.held deliver reply sender ours v d n).delivered
-    deliveries_counted = (answer_is _ a answered).0 ∙ listed_count no_deliveries _ ∙ zero-add _
+    deliveries_counted = (answer_is (message_outcome s.table s.held deliver reply sender ours v d n) a answered).0 ∙ listed_count no_deliveries _ ∙ zero-add _
 
     -- and lists each, with its kind, numbers and length, in its turn
     pub deliveries_listed : (z : Delivery) (none : Delivered) (k : ℕ)
