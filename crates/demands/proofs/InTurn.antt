@@ -16,7 +16,7 @@ use native.Mathlib.Omega.{arith}
 use lib.Dec.{ltb, eqb, lit≤, lit<}
 use lib.IntN.{pos}
 use lib.ListN.{length, get_or, take, set, replicate}
-use Rattle.std.specs.Prelude.{Option, Some, None}
+use Rattle.std.specs.Prelude.{Option, Some, None, is_some, Result, Ok, Err}
 use Rattle.octets.specs.Octets.{number}
 use Rattle.counter.specs.Distance.{turn, ahead, distance}
 use Rattle.counter.specs.Steps.{next}
@@ -30,6 +30,8 @@ use Rattle.message.specs.declared.Cid.{Cid}
 use Rattle.message.specs.declared.Join.{Join}
 use Rattle.message.specs.declared.Parameters.{Parameters}
 use Rattle.message.specs.declared.Wrapper.{Wrapper}
+use Rattle.refusal.specs.declared.Refusal.{Refusal}
+use Rattle.refusal.specs.declared.Refusal.TheVariants as refusal
 use Rattle.record.specs.Legal.{legal_names, legal_parameters}
 use Rattle.record.specs.Profile.{min_expiry}
 use Rattle.record.specs.WellFormed.{most_contents}
@@ -48,6 +50,7 @@ use Rattle.wrapper.specs.declared.Fate.TheVariants as fate
 use Rattle.wrapper.specs.InTurn as turns
 use Rattle.wrapper.proofs.InTurn.{in_turn}
 use Rattle.wrapper.specs.Since.{Freed}
+use Rattle.wrapper.specs.declared.Plan.{Plan}
 use Rattle.joining.specs.Joining.{legal_block, legal, decide_new, decided, new_record}
 use Rattle.joining.specs.declared.Decision.{Decision}
 use Rattle.joining.specs.declared.Decision.TheVariants as decision
@@ -59,7 +62,7 @@ use Rattle.carry.proofs.PlanFits.{taking}
 use Rattle.asking.specs.Asking.{arrived_of, wrapper_for, wrapper_asks, join_asks, asked_of}
 use Rattle.asking.specs.declared.Asked.{Asked}
 use Rattle.member.specs.Sizes.{table_size, held_size, deliver_size, reply_size, message_sizes}
-use Rattle.member.specs.Messages.{Outcome, refused_message, existing_at, join_done, join_outcome, plan_outcome, wrapper_outcome, asked_outcome, message_outcome}
+use Rattle.member.specs.Messages.{Outcome, refused_message, existing_at, join_done, join_outcome, plan_outcome, stepped_outcome, wrapper_outcome, asked_outcome, message_outcome}
 use Rattle.member.specs.declared.Given.TheVariants as given
 use Rattle.demands.specs.Runs.{Came, run, own_of, shown, Each, none, more}
 use Rattle.demands.specs.Calls as calls
@@ -285,7 +288,7 @@ module _ (ts : List Record) (i : ℕ) (p : Parameters) where
       where
         by : (r : Result Plan Refusal) → Made o j n (stepped_outcome ts held k w c r)
         by (Ok plan) e = never (cc)
-        by (Err why) = refused_made why
+        by (Err why) e = refused_made why e
 
     wrapper_made : (f : Option ℕ) (b : Bool) (w : Wrapper) (len : ℕ) (c : List ℕ) → Made o j n (asked_outcome ts held o n c (wrapper_for f b w len))
     wrapper_made None b w len c = refused_made refusal.NoRecord
