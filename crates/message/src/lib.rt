@@ -3,7 +3,7 @@
 
 ghost use Rattle.std.specs.Prelude.{◌≡◌, true, ◌+◌, ◌≤◌, length, IfSome};
 ghost use Rattle.message.specs.Lengths.{join_refuse, length_of};
-ghost use Rattle.message.specs.Layouts.{cid_at, membership_of, wrapper_of, parameters_at, address_of, join_of};
+ghost use Rattle.message.specs.Layouts.{cid_at, membership_of, wrapper_of, parameters_at, endpoint_at, address_of, join_of};
 ghost use Rattle.message.specs.Reading.{readable_join, readable, fixed_of, message_of};
 ghost use Rattle.message.specs.Allowed.{ReadMessageAllows};
 
@@ -284,24 +284,28 @@ fn parameters_at(s: &[u8], at: usize) -> Parameters
     }
 }
 
+#[tactic(auto, unfolding(crate::specs::Layouts::endpoint_at))]
+fn endpoint_at(s: &[u8], at: usize) -> Endpoint
+    requires { at + 6 ≤ length s.now }
+    ensures { result ≡ endpoint_at s.now at }
+{
+    Endpoint {
+        port: u16::at(s, at),
+        host: u32::at(s, at + 2),
+    }
+}
+
 // The address of a Join's data and what follows it.
-#[tactic(auto, using(crate::proofs::Readable::join_length, crate::proofs::Readable::null_length, crate::proofs::Readable::ipv4_length), unfolding(crate::specs::Layouts::address_of, crate::specs::Layouts::endpoint_at))]
+#[tactic(auto, using(crate::proofs::Readable::join_length, crate::proofs::Readable::null_length, crate::proofs::Readable::ipv4_length), unfolding(crate::specs::Layouts::address_of))]
 fn address_of(body: &[u8]) -> Address
     requires { readable_join body.now ≡ true }
     ensures { result ≡ address_of body.now }
 {
-    let address = body[30];
-    if address == ADDRESS_NULL {
-        return Address::Null(parameters_at(body, 31));
+    match body[30] {
+        ADDRESS_NULL => Address::Null(parameters_at(body, 31)),
+        ADDRESS_IPV4 => Address::Ipv4(endpoint_at(body, 31), parameters_at(body, 37)),
+        kind => Address::Other(kind),
     }
-    if address == ADDRESS_IPV4 {
-        let endpoint = Endpoint {
-            port: u16::at(body, 31),
-            host: u32::at(body, 33),
-        };
-        return Address::Ipv4(endpoint, parameters_at(body, 37));
-    }
-    Address::Other(address)
 }
 
 #[tactic(auto, using(crate::proofs::Readable::join_length), unfolding(crate::specs::Layouts::join_of))]
@@ -309,7 +313,6 @@ fn join_of(body: &[u8]) -> Join
     requires { readable_join body.now ≡ true }
     ensures { result ≡ join_of body.now }
 {
-    let address = address_of(body);
     Join {
         cid: cid_at(body, 0),
         mid: u16::at(body, 16),
@@ -317,7 +320,7 @@ fn join_of(body: &[u8]) -> Join
         reciprocal: u16::at(body, 20),
         total: Total(u32::at(body, 22)),
         reliable: Reliable(u32::at(body, 26)),
-        address,
+        address: address_of(body),
     }
 }
 

@@ -53,6 +53,8 @@ fn address_of(m: Message) -> u8
     }
 }
 
+// Each of these writes behind the place `at` and answers the place behind what it wrote. Room and place are two parameters, since a struct with
+// the lent room in it would have each of them promise too that it still holds the same room (the new form is no plainer).
 fn put_cid(room: &mut [u8], at: usize, c: Cid) -> usize
     requires { at + 16 ≤ length room.old }
     ensures { (room.new ≡ splice room.old at (cid_octets c)) × (result ≡ at + 16) }
