@@ -1,4 +1,2 @@
-pub mod Arms
 pub mod Apart
-pub mod EachKind
 pub mod Refused

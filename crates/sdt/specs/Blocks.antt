@@ -1,14 +1,15 @@
 -- What C is answered when it reads blocks: 01's number and values for each answer of `block`, as a struct of numbers.
-use Rattle.std.specs.Prelude.{ℕ, cond, eqb}
-use Rattle.block.specs.Block.{nothing, number_of as readNumber}
-use Rattle.block.specs.Cursor.{start, number_of as openedNumber}
+use Rattle.std.specs.Prelude.{ℕ, cond, eqb, Option, Some, None, Result, Ok, Err}
+use Rattle.refusal.specs.Numbers.{number_of}
+use Rattle.refusal.specs.declared.Refusal.{Refusal}
+use Rattle.refusal.specs.declared.Refusal.TheVariants.{Malformed}
+use Rattle.block.specs.Block.{nothing}
+use Rattle.block.specs.Cursor.{start}
+use Rattle.block.specs.declared.Found.{Found}
 use Rattle.block.specs.declared.Cursor.{Cursor}
-use Rattle.block.specs.declared.BlockRead.{BlockRead}
-use Rattle.block.specs.declared.BlockRead.TheVariants as read
 use Rattle.block.specs.declared.Opened.{Opened}
-use Rattle.block.specs.declared.Opened.TheVariants as opened
-use Rattle.block.specs.declared.Next.{Next}
-use Rattle.block.specs.declared.Next.TheVariants as next
+use Rattle.block.specs.declared.Following.{Following}
+use Rattle.block.specs.declared.Astray.{Astray}
 use Rattle.sdt.specs.declared.BlockAnswer.{BlockAnswer}
 use Rattle.sdt.specs.declared.OpenAnswer.{OpenAnswer}
 use Rattle.sdt.specs.declared.NextAnswer.{NextAnswer}
@@ -27,22 +28,25 @@ fewer = 100
 abbrev pub astray : ℕ
 astray = 101
 
-unfoldable pub block_answer : BlockRead → BlockAnswer
-block_answer (read.Message found) = record { outcome = readNumber (read.Message found); found = found; bad = 0 }
-block_answer read.Fewer = record { outcome = fewer; found = nothing; bad = 0 }
-block_answer read.TooLong = record { outcome = readNumber read.TooLong; found = nothing; bad = 0 }
-block_answer (read.Malformed bad) = record { outcome = readNumber (read.Malformed bad); found = nothing; bad = bad }
+-- the place that is answered beside a refusal's number: that of the first malformed PDU, and with any other refusal 0
+abbrev pub place_of : Refusal → ℕ
+place_of (Malformed at) = at
+place_of r = 0
 
-unfoldable pub open_answer : Opened → OpenAnswer
-open_answer (opened.Messages count cursor) = record { outcome = openedNumber (opened.Messages count cursor); count = count; cursor = cursor; bad = 0 }
-open_answer opened.TooLong = record { outcome = openedNumber opened.TooLong; count = 0; cursor = start; bad = 0 }
-open_answer (opened.Malformed bad) = record { outcome = openedNumber (opened.Malformed bad); count = 0; cursor = start; bad = bad }
+unfoldable pub block_answer : Result (Option Found) Refusal → BlockAnswer
+block_answer (Ok (Some found)) = record { outcome = ok; found = found; bad = 0 }
+block_answer (Ok None) = record { outcome = fewer; found = nothing; bad = 0 }
+block_answer (Err r) = record { outcome = number_of r; found = nothing; bad = place_of r }
+
+unfoldable pub open_answer : Result Opened Refusal → OpenAnswer
+open_answer (Ok o) = record { outcome = ok; count = o.count; cursor = o.cursor; bad = 0 }
+open_answer (Err r) = record { outcome = number_of r; count = 0; cursor = start; bad = place_of r }
 
 -- c is the cursor that was given
-unfoldable pub next_answer : Cursor → Next → NextAnswer
-next_answer c (next.Message found cursor) = record { outcome = ok; found = found; cursor = cursor }
-next_answer c next.End = record { outcome = fewer; found = nothing; cursor = c }
-next_answer c next.Astray = record { outcome = astray; found = nothing; cursor = c }
+unfoldable pub next_answer : Cursor → Result (Option Following) Astray → NextAnswer
+next_answer c (Ok (Some f)) = record { outcome = ok; found = f.found; cursor = f.cursor }
+next_answer c (Ok None) = record { outcome = fewer; found = nothing; cursor = c }
+next_answer c (Err e) = record { outcome = astray; found = nothing; cursor = c }
 
 -- the place that stands in an answer of this outcome: that of the bad PDU with 11, and else 0
 abbrev pub bad_with : ℕ → ℕ → ℕ

@@ -4,13 +4,14 @@
 #![tactic(auto)]
 
 ghost use Rattle.std.specs.Prelude.{◌≡◌};
-ghost use Rattle.sdt.specs.Messages.{write_answer};
+ghost use Rattle.sdt.specs.Blocks.{place_of, block_answer, open_answer};
+ghost use Rattle.sdt.specs.Messages.{message_answer, write_answer};
 ghost use Rattle.sdt.specs.Allowed.{SdtReadBlockAllows, SdtOpenBlockAllows, SdtNextMessageAllows, SdtReadMessageAllows, SdtWriteMessageAllows};
 
-use block::{BlockRead, Cursor, Found, Next, Opened};
-use message::{Address, Message, MessageRead};
-use plain::{Destination, Missed, Plain, Typed};
-use writing::Wrote;
+use block::{Astray, Cursor, Found, Opened};
+use message::Message;
+use plain::Plain;
+use refusal::Refusal;
 
 // Nothing is refused.
 const OK: u32 = 0;
@@ -25,6 +26,11 @@ const NO_FOUND: Found = Found {
     vector: 0,
     place: 0,
     len: 0,
+};
+
+const START: Cursor = Cursor {
+    next: 0,
+    before: NO_FOUND,
 };
 
 // What reading one message of a block answers; `bad` is the place of the first malformed PDU.
@@ -68,83 +74,131 @@ pub struct WriteAnswer {
     pub length: usize,
 }
 
+// The place that is answered beside a refusal's number: that of the first malformed PDU, and with any other refusal 0.
+fn place_of(r: Refusal) -> usize
+    ensures { result ≡ place_of r }
+{
+    match r {
+        Refusal::Malformed(at) => at,
+        _ => 0,
+    }
+}
+
+impl From<Result<Option<Found>, Refusal>> for BlockAnswer {
+    ghost from_gives = { λ read answer. answer ≡ block_answer read };
+
+    #[tactic(auto, unfolding(crate::specs::Blocks::block_answer))]
+    fn from(read: Result<Option<Found>, Refusal>) -> BlockAnswer {
+        match read {
+            Ok(Some(found)) => BlockAnswer {
+                outcome: OK,
+                found,
+                bad: 0,
+            },
+            Ok(None) => BlockAnswer {
+                outcome: FEWER,
+                found: NO_FOUND,
+                bad: 0,
+            },
+            Err(r) => BlockAnswer {
+                outcome: r.number() as u32,
+                found: NO_FOUND,
+                bad: place_of(r),
+            },
+        }
+    }
+}
+
+impl From<Result<Opened, Refusal>> for OpenAnswer {
+    ghost from_gives = { λ opened answer. answer ≡ open_answer opened };
+
+    #[tactic(auto, unfolding(crate::specs::Blocks::open_answer))]
+    fn from(opened: Result<Opened, Refusal>) -> OpenAnswer {
+        match opened {
+            Ok(Opened { count, cursor }) => OpenAnswer {
+                outcome: OK,
+                count,
+                cursor,
+                bad: 0,
+            },
+            Err(r) => OpenAnswer {
+                outcome: r.number() as u32,
+                count: 0,
+                cursor: START,
+                bad: place_of(r),
+            },
+        }
+    }
+}
+
+impl From<Result<Message, Refusal>> for MessageAnswer {
+    ghost from_gives = { λ read answer. answer ≡ message_answer read };
+
+    #[inline(always)]
+    #[tactic(auto, unfolding(crate::specs::Messages::message_answer))]
+    fn from(read: Result<Message, Refusal>) -> MessageAnswer {
+        match read {
+            Ok(m) => MessageAnswer {
+                outcome: OK,
+                message: Plain::from(m),
+            },
+            Err(r) => MessageAnswer {
+                outcome: r.number() as u32,
+                message: plain::EMPTY,
+            },
+        }
+    }
+}
+
+impl From<Result<usize, Refusal>> for WriteAnswer {
+    ghost from_gives = { λ wrote answer. answer ≡ write_answer wrote };
+
+    #[tactic(auto, unfolding(crate::specs::Messages::write_answer))]
+    fn from(wrote: Result<usize, Refusal>) -> WriteAnswer {
+        match wrote {
+            Ok(length) => WriteAnswer {
+                outcome: OK,
+                length,
+            },
+            Err(r) => WriteAnswer {
+                outcome: r.number() as u32,
+                length: 0,
+            },
+        }
+    }
+}
+
 // Reads the message of a block at `position`, counted from 0.
 pub fn sdt_read_block(block: &[u8], position: u32) -> BlockAnswer
     ensures { SdtReadBlockAllows block.now position result }
 {
-    match block::read_block(block, position) {
-        BlockRead::Message(found) => BlockAnswer {
-            outcome: OK,
-            found,
-            bad: 0,
-        },
-        BlockRead::Fewer => BlockAnswer {
-            outcome: FEWER,
-            found: NO_FOUND,
-            bad: 0,
-        },
-        BlockRead::TooLong => BlockAnswer {
-            outcome: 1,
-            found: NO_FOUND,
-            bad: 0,
-        },
-        BlockRead::Malformed(bad) => BlockAnswer {
-            outcome: 11,
-            found: NO_FOUND,
-            bad,
-        },
-    }
+    BlockAnswer::from(block::read_block(block, position))
 }
 
 // Opens a block: how many messages it has, and the cursor before the first.
 pub fn sdt_open_block(block: &[u8]) -> OpenAnswer
     ensures { SdtOpenBlockAllows block.now result }
 {
-    let start = Cursor {
-        next: 0,
-        before: NO_FOUND,
-    };
-    match block::open_block(block) {
-        Opened::Messages { count, cursor } => OpenAnswer {
-            outcome: OK,
-            count,
-            cursor,
-            bad: 0,
-        },
-        Opened::TooLong => OpenAnswer {
-            outcome: 1,
-            count: 0,
-            cursor: start,
-            bad: 0,
-        },
-        Opened::Malformed(bad) => OpenAnswer {
-            outcome: 11,
-            count: 0,
-            cursor: start,
-            bad,
-        },
-    }
+    OpenAnswer::from(block::open_block(block))
 }
 
 // Reads the message behind a cursor.
+#[tactic(auto, unfolding(crate::specs::Blocks::next_answer))]
 pub fn sdt_next_message(block: &[u8], cursor: Cursor) -> NextAnswer
     ensures { SdtNextMessageAllows block.now cursor result }
 {
     match block::next_message(block, cursor) {
-        Next::Message {
-            found,
-            cursor: behind,
-        } => NextAnswer {
+        Ok(Some(following)) => NextAnswer {
             outcome: OK,
-            found,
-            cursor: behind,
+            found: following.found,
+            cursor: following.cursor,
         },
-        Next::End => NextAnswer {
+        Ok(None) => NextAnswer {
             outcome: FEWER,
             found: NO_FOUND,
             cursor,
         },
-        Next::Astray => NextAnswer {
+        Err(Astray) => NextAnswer {
             outcome: ASTRAY,
             found: NO_FOUND,
             cursor,
@@ -152,159 +206,22 @@ pub fn sdt_next_message(block: &[u8], cursor: Cursor) -> NextAnswer
     }
 }
 
-// Reads the message of this vector and data. Each kind returns by itself, so that its answer is written in place and no kind pays for
-// the fields of another.
+// Reads the message of this vector and data.
 #[inline(always)]
 pub fn sdt_read_message(vector: u8, body: &[u8]) -> MessageAnswer
     ensures { SdtReadMessageAllows vector body.now result }
 {
-    let MessageRead::Read(m) = message::read_message(vector, body) else {
-        return MessageAnswer {
-            outcome: 4,
-            message: plain::empty(),
-        };
-    };
-    match m {
-        Message::ReliableWrapper(w) => {
-            return MessageAnswer {
-                outcome: OK,
-                message: plain::wrapper_plain(message::RELIABLE_WRAPPER, w),
-            };
-        }
-        Message::UnreliableWrapper(w) => {
-            return MessageAnswer {
-                outcome: OK,
-                message: plain::wrapper_plain(message::UNRELIABLE_WRAPPER, w),
-            };
-        }
-        Message::Join(j) => {
-            let address = j.address;
-            match address {
-                Address::Null(p) => {
-                    return MessageAnswer {
-                        outcome: OK,
-                        message: plain::join_plain(j, plain::NO_DESTINATION, p),
-                    };
-                }
-                Address::Ipv4(e, p) => {
-                    return MessageAnswer {
-                        outcome: OK,
-                        message: plain::join_plain(
-                            j,
-                            Destination {
-                                host: e.host,
-                                port: e.port,
-                                kind: message::ADDRESS_IPV4,
-                            },
-                            p,
-                        ),
-                    };
-                }
-                Address::Other(kind) => {
-                    return MessageAnswer {
-                        outcome: OK,
-                        message: plain::join_plain(
-                            j,
-                            Destination {
-                                host: 0,
-                                port: 0,
-                                kind,
-                            },
-                            plain::NO_PARAMETERS,
-                        ),
-                    };
-                }
-            }
-        }
-        Message::JoinRefuse { member, reason } => {
-            return MessageAnswer {
-                outcome: OK,
-                message: plain::member_plain(
-                    message::JOIN_REFUSE,
-                    member,
-                    reason,
-                    0,
-                    plain::NO_MISSED,
-                ),
-            };
-        }
-        Message::JoinAccept { member, reciprocal } => {
-            return MessageAnswer {
-                outcome: OK,
-                message: plain::member_plain(
-                    message::JOIN_ACCEPT,
-                    member,
-                    0,
-                    reciprocal,
-                    plain::NO_MISSED,
-                ),
-            };
-        }
-        Message::Leaving { member, reason } => {
-            return MessageAnswer {
-                outcome: OK,
-                message: plain::member_plain(message::LEAVING, member, reason, 0, plain::NO_MISSED),
-            };
-        }
-        Message::Ack(r) => {
-            return MessageAnswer {
-                outcome: OK,
-                message: plain::ack_plain(r),
-            };
-        }
-        Message::Nak {
-            member,
-            first,
-            last,
-        } => {
-            let missed = Missed {
-                first: first.0,
-                last: last.0,
-            };
-            return MessageAnswer {
-                outcome: OK,
-                message: plain::member_plain(message::NAK, member, 0, 0, missed),
-            };
-        }
-        Message::GetSessions(cid) => {
-            return MessageAnswer {
-                outcome: OK,
-                message: plain::sessions_plain(cid),
-            };
-        }
-    }
-}
-
-fn write_answer(w: Wrote) -> WriteAnswer
-    ensures { result ≡ write_answer w }
-{
-    match w {
-        Wrote::Octets(length) => WriteAnswer {
-            outcome: OK,
-            length,
-        },
-        Wrote::NoForm => WriteAnswer {
-            outcome: 4,
-            length: 0,
-        },
-        Wrote::NoRoom => WriteAnswer {
-            outcome: 1,
-            length: 0,
-        },
-        Wrote::ContentsOver => WriteAnswer {
-            outcome: 7,
-            length: 0,
-        },
-    }
+    MessageAnswer::from(message::read_message(vector, body))
 }
 
 // Writes a message at the front of the room, with contents if it is a wrapper.
 #[inline(always)]
+#[tactic(auto, unfolding(crate::specs::Messages::written_answer, crate::specs::Messages::written_room))]
 pub fn sdt_write_message(m: Plain, contents: &[u8], room: &mut [u8]) -> WriteAnswer
     ensures { SdtWriteMessageAllows m contents.now room.old (record { answer = result; room = room.new }) }
 {
-    let Typed::Is(message) = plain::typed_of(m) else {
-        return write_answer(Wrote::NoForm);
+    let Some(message) = plain::typed_of(m) else {
+        return WriteAnswer::from(Err(Refusal::NoForm));
     };
-    write_answer(writing::write_message(message, contents, room))
+    WriteAnswer::from(writing::write_message(message, contents, room))
 }
