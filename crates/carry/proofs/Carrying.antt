@@ -1,11 +1,12 @@
 -- What the functions of `carry` come to, over plain variables: the leaves of a fate, where places end, and the turns of the
 -- deliveries from held places. Assumes nothing.
-use Prim.Native.Nat.{ℕ, ◌+◌, ◌*◌, ◌<◌, ◌≤◌}
+use Prim.Native.Nat.{ℕ, ◌+◌, ◌-◌, ◌*◌, ◌<◌, ◌≤◌}
 use mathlib.Core.List.{List, [], ◌∷◌}
 use mathlib.Core.Logic.{⊎_elim}
 use mathlib.Core.Path.{◌≡◌, refl, sym, ◌∙◌}
 use native.Mathlib.Numerals.{add-one}
 use native.Mathlib.Omega.{arith}
+use Rattle.std.specs.Prelude.{slice_range}
 use lib.ListN.{length, get_or, set, take, drop, drop_of_length-le}
 use lib.Seq.{drop-cons, get_or-take, length-take-le}
 use denote.Enum.Declared.{tag_of}
@@ -30,83 +31,40 @@ pub place_ends : (i j n : ℕ) → i < 8 → j < 4 → n ≤ most_contents → p
 unfolding place_begins
 place_ends i j n hi hj hn = omega arith
 
--- ---- the fates that a function lets pass
-
--- only a held one changes the held octets
-pub not_held : (f : Fate) → OneOf (0 ∷ 2 ∷ []) (tag_of the_type f) → (i : ℕ) (c held : List ℕ) → held ≡ held_after i f c held
-not_held Delivered k i c held = refl
-not_held (Held j) k i c held = absurd (⊎_elim (λ z. omega arith) (λ z. omega arith) k)
-not_held Dropped k i c held = refl
-
--- only a delivered one is delivered at once
-pub not_delivered : (f : Fate) → OneOf (1 ∷ 2 ∷ []) (tag_of the_type f) → (w : Arrived) (c : List ℕ) → at_once f w c ≡ []
-not_delivered Delivered k w c = absurd (⊎_elim (λ z. omega arith) (λ z. omega arith) k)
-not_delivered (Held j) k w c = refl
-not_delivered Dropped k w c = refl
-
 -- ---- what is left to deliver after k turns
 
-module _ (held : List ℕ) (i : ℕ) (ps : List Place) (order : List ℕ) (n : ℕ) where
+module _ (held : List ℕ) (i : ℕ) (ps : List Place) (order : List ℕ) where
   abbrev pub left : ℕ → List carried.Delivered
-  left k = from_places held i ps (drop k (take n order))
+  left k = from_places held i ps (drop k order)
 
-  -- the place of this turn, and the rest
-  pub left_more : (k : ℕ) → k < n → n ≤ length order
-      → left k ≡ from_place held i (get_or order k 0) (place_at ps (get_or order k 0)) ∷ left (k + 1)
-  left_more k h l =
-      let m : k < length (take n order) = omega (arith, length-take-le n order l) in
-      rw (drop-cons (take n order) k 0 m, get_or-take n order k 0 h, add-one k)
+  -- the wrapper of place j, and the same with its contents read from where they begin
+  abbrev pub this : ℕ → carried.Delivered
+  this j = from_place held i j (place_at ps j)
 
-  pub left_none : (k : ℕ) → n ≤ k → n ≤ length order → left k ≡ []
-  left_none k h l =
-      let m : length (take n order) ≤ k = omega (arith, length-take-le n order l) in
-      rw (drop_of_length-le (take n order) m)
+  pub this_is : (j begin : ℕ) → begin ≡ place_begins i j
+      → ◌≡◌ {A = carried.Delivered}
+      (record { delivery = (this j).delivery; contents = slice_range held begin (begin + (place_at ps j).len) })
+      (this j)
+  this_is j begin e =
+      let long : begin + (place_at ps j).len - begin ≡ (place_at ps j).len = omega arith in
+      rw (long, e)
 
-  -- one turn leaves the answer and the room that are reached in the end
-  module _ (k : ℕ) (h : k < n) (l : n ≤ length order) where
-    abbrev this : carried.Delivered
-    this = from_place held i (get_or order k 0) (place_at ps (get_or order k 0))
+  module _ (k : ℕ) (h : k < length order) where
+    left_more : left k ≡ this (get_or order k 0) ∷ left (k + 1)
+    left_more = rw (drop-cons order k 0 h, add-one k)
 
-    pub listed_turn : (d after : Deliveries) → after ≡ one_more d this → listed after (left (k + 1)) ≡ listed d (left k)
+    -- one turn leaves the answer and the room that are reached in the end
+    pub listed_turn : (d after : Deliveries) → after ≡ one_more d (this (get_or order k 0)) → listed after (left (k + 1)) ≡ listed d (left k)
     unfolding listed
-    listed_turn d after e = rw (left_more k h l, e)
+    listed_turn d after f = rw (left_more, f)
 
-    pub written_turn : (m : ℕ) (room after : List ℕ) → after ≡ deliver_from m (this ∷ []) room
+    pub written_turn : (m : ℕ) (room after : List ℕ) → after ≡ deliver_from m (this (get_or order k 0) ∷ []) room
         → deliver_from (m + 1) (left (k + 1)) after ≡ deliver_from m (left k) room
     unfolding deliver_from
-    written_turn m room after e = rw (left_more k h l, e)
+    written_turn m room after f = rw (left_more, f)
 
--- ---- one delivery
-
--- a held one copied is one cell written
-pub cell_written : (held : List ℕ) (i j at k : ℕ) (p : Place) (room after : List ℕ) → at ≡ place_begins i j
-    → after ≡ splice room (k * most_contents) (part held at p.len) → after ≡ deliver_from k (from_place held i j p ∷ []) room
-unfolding deliver_from
-cell_written held i j at k p room after e f = rw (f, e)
-
-module _ (f : Fate) (w : Arrived) (c : List ℕ) where
-  module _ (k : OneOf (1 ∷ 2 ∷ []) (tag_of the_type f)) where
-    pub none_listed : (a : Deliveries) → a ≡ no_deliveries → a ≡ listed no_deliveries (at_once f w c)
-    unfolding listed
-    none_listed a e = rw (not_delivered f k w c) e
-
-    pub none_written : (room : List ℕ) → room ≡ deliver_from 0 (at_once f w c) room
-    unfolding deliver_from
-    none_written room = rw (not_delivered f k w c)
-
-  module _ (e : f ≡ Delivered) where
-    pub one_listed : (a : Deliveries) → a ≡ no_deliveries
-        → ◌≡◌ {A = Deliveries}
-        (record { each = set a.each 0 (record { reliably = w.reliably; total = w.total; reliable = w.reliable; len = w.len }); count = 1 })
-        (listed no_deliveries (at_once f w c))
-    unfolding listed
-    one_listed a g = rw (e, g)
-
-    pub one_written : (room after : List ℕ) → after ≡ splice room 0 c → after ≡ deliver_from 0 (at_once f w c) room
-    unfolding deliver_from
-    one_written room after g = rw e g
-
-pub ruleset firsts = (none_listed, none_written, one_listed, one_written)
+  pub left_none : (k : ℕ) → length order ≤ k → left k ≡ []
+  left_none k h = rw (drop_of_length-le order h)
 
 -- ---- the whole plan
 

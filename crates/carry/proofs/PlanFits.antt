@@ -1,5 +1,6 @@
 -- Every plan of a well-formed record can be carried out: the places that it names are of the record's four, and what it delivers from them
 -- fits a cell. And what steps 3 to 6 make of the places, which the laws on held octets go by. Assumes nothing.
+use Prim.{Unit}
 use Prim.Native.Nat.{ℕ, ◌<◌, ◌≤◌}
 use mathlib.Core.Bool.{Bool, true, false, cond, not, ◌&&◌}
 use mathlib.Core.List.{List}
@@ -7,6 +8,8 @@ use mathlib.Core.Logic.{◌≢◌, ◌⊎◌, inl, inr}
 use mathlib.Core.Path.{◌≡◌, refl, ap, ◌∙◌}
 use native.Mathlib.Omega.{arith}
 use lib.ListN.{length, get_or, set, length-set}
+use Rattle.std.specs.Prelude.{Option, Some, None, Result, Ok, Err}
+use Rattle.refusal.specs.declared.Refusal.{Refusal}
 use Rattle.counter.specs.declared.Reliable.{Reliable}
 use Rattle.record.specs.Places.{no_place, place_at}
 use Rattle.record.specs.Reasons.{lost_sequence}
@@ -16,42 +19,36 @@ use Rattle.record.specs.declared.Gap.TheVariants as gap
 use Rattle.record.specs.declared.Place.{Place}
 use Rattle.record.specs.declared.Record.{Record}
 use Rattle.record.proofs.Choices.{either, never}
-use Rattle.record.proofs.Lowest.{lowest_is}
+use Rattle.std.proofs.lemmas.List.Quantifiers.{position-Some}
 use Rattle.record.proofs.Stored.{Stored, used_below, used_stored}
 use Rattle.record.proofs.Formed.{formed}
 use Rattle.gap.specs.Standoff.{standoff_of}
 use Rattle.wrapper.specs.Judge.{judged, heard}
 use Rattle.wrapper.specs.Hold.{next_one, holds, is_free, lowest_free, place_for, held_as, put_in, placed}
 use Rattle.wrapper.specs.Release.{release_at, released}
-use Rattle.wrapper.specs.Settle.{lost, begun, gapped, asked, spared, acknowledged, settled}
+use Rattle.wrapper.specs.Settle.{lost, begun, gapped, asked, spared, acknowledged, settled_by, settled}
 use Rattle.wrapper.specs.Taken.{taken, stepped_by, stepped}
 use Rattle.wrapper.specs.Since.{Freed, Since}
 use Rattle.wrapper.specs.declared.Arrived.{Arrived}
 use Rattle.wrapper.specs.declared.Fate.{Fate}
 use Rattle.wrapper.specs.declared.Fate.TheVariants.{Delivered, Held}
-use Rattle.wrapper.specs.declared.Gapped.{Gapped}
-use Rattle.wrapper.specs.declared.Judged.{Judged}
-use Rattle.wrapper.specs.declared.Judged.TheVariants.{Old, Inconsistent, Fresh}
 use Rattle.wrapper.specs.declared.Placed.{Placed}
 use Rattle.wrapper.specs.declared.Plan.{Plan}
 use Rattle.wrapper.specs.declared.Reply.TheVariants as reply
-use Rattle.wrapper.specs.declared.Search.{Search}
-use Rattle.wrapper.specs.declared.Search.TheVariants.{At, Nowhere}
 use Rattle.wrapper.specs.declared.Settled.{Settled}
 use Rattle.wrapper.proofs.Releasing.{release_counts, along}
-use Rattle.wrapper.proofs.Holding.{tells}
 use Rattle.wrapper.proofs.ReleaseIsDone.{since_start, since_more, count_below}
 use Rattle.carry.specs.Fits.{Fits}
 
 -- ---- step 3
 
-place_below : (w : Arrived) (ps : List Place) (i : ℕ) → place_for w ps ≡ At i → i < length ps
+place_below : (w : Arrived) (ps : List Place) (i : ℕ) → place_for w ps ≡ Some i → i < length ps
 unfolding place_for lowest_free
 place_below w ps i e = by w.reliably (holds w.reliable ps) e
   where
-    by : (s h : Bool) → cond s (cond h Nowhere (lowest_free 0 ps)) Nowhere ≡ At i → i < length ps
+    by : (s h : Bool) → cond s (cond h None (lowest_free ps)) None ≡ Some i → i < length ps
     by true true q = never (cc)
-    by true false q = (lowest_is is_free At Nowhere tells no_place ps i q).0
+    by true false q = (position-Some is_free ps i no_place q).0
     by false h q = never (cc)
 
 -- a place that is used after step 3: the wrapper is held in it, or it is as it was and the wrapper is not held in it
@@ -68,8 +65,8 @@ module _ (r : Record) (w : Arrived) where
   next_placing : Placing r w (record { after = with_numbers r w.total w.reliable; fate = Delivered })
   next_placing = record { places = refl; below = λ j e. never (cc); kept = λ j u. inr (λ e. never (cc), refl) }
 
-  put_placing : (f : Search) → place_for w r.places ≡ f → Placing r w (put_in r w f)
-  put_placing (At i) e =
+  put_placing : (f : Option ℕ) → place_for w r.places ≡ f → Placing r w (put_in r w f)
+  put_placing (Some i) e =
       record {
         places = length-set r.places i (held_as w);
         below = λ j g.
@@ -81,7 +78,7 @@ module _ (r : Record) (w : Arrived) where
       by : (j : ℕ) → Stored no_place r.places i (held_as w) j → Kept r w (Held i) (set r.places i (held_as w)) j
       by j (inl a) = inl (ap Held a.0, a.1)
       by j (inr a) = inr (λ e. a.0 (cc), a.1)
-  put_placing Nowhere e = record { places = refl; below = λ j g. never (cc); kept = λ j u. inr (λ g. never (cc), refl) }
+  put_placing None e = record { places = refl; below = λ j g. never (cc); kept = λ j u. inr (λ g. never (cc), refl) }
 
   pub placing : Placing r w (placed r w)
   unfolding placed
@@ -120,28 +117,15 @@ acknowledged_places r w =
     refl
     refl
 
-gapped_places : (r : Record) (o : Reliable) → (gapped r o).after.places ≡ r.places
-unfolding gapped
-gapped_places r o =
-    either (λ (g : Gapped). g.after.places ≡ r.places) (closed r) (record { after = with_gap r gap.Quiet; lost = false }) _
-    refl
-    (either (λ (g : Gapped). g.after.places ≡ r.places)
-    (lost r o)
-    (record { after = freed r; lost = true })
-    (record { after = with_gap r (begun r.gap (standoff_of r)); lost = false })
-    refl
-    refl)
-
 pub settled_places : (r : Record) (w : Arrived) → (settled r w).after.places ≡ r.places
-unfolding settled
+unfolding settled gapped
 settled_places r w =
-    let g = gapped r w.oldest in
-    either (λ (s : Settled). s.after.places ≡ r.places)
-    g.lost
-    (record { after = g.after; reply = reply.Leaving lost_sequence r.reliable })
-    (acknowledged g.after w)
-    (gapped_places r w.oldest)
-    (acknowledged_places g.after w ∙ gapped_places r w.oldest)
+    either Stand (closed r) (Some (with_gap r gap.Quiet)) _
+    (acknowledged_places _ w)
+    (either Stand (lost r w.oldest) None (Some (with_gap r (begun r.gap (standoff_of r)))) refl (acknowledged_places _ w))
+  where
+    Stand : Option Record → Type 0
+    Stand g = (settled_by g r w).after.places ≡ r.places
 
 -- ---- the whole step
 
@@ -193,16 +177,15 @@ plan_fits r w used well four fits =
           rw f.1 (used_fits r w used well fits (taken r w).fate held j f.0 (t.kept j f.0));
     }
 
--- a step that refuses nothing is steps 2 to 6
-pub stepped_taken : (r : Record) (w : Arrived) → (stepped r w).number ≡ 0 → (stepped r w).plan ≡ taken r w
+-- a step that is not refused is steps 2 to 6
+pub stepped_taken : (r : Record) (w : Arrived) (p : Plan) → stepped r w ≡ Ok p → p ≡ taken r w
 unfolding stepped
-stepped_taken r w e = by (judged r w.reliably w.total w.reliable) e
+stepped_taken r w p e = by (judged r w.reliably w.total w.reliable) e
   where
-    by : (j : Judged) → (stepped_by j r w).number ≡ 0 → (stepped_by j r w).plan ≡ taken r w
-    by Old z = absurd (omega arith)
-    by Inconsistent z = absurd (omega arith)
-    by Fresh z = refl
+    by : (j : Result (Unit {0}) Refusal) → stepped_by j r w ≡ Ok p → p ≡ taken r w
+    by (Err x) q = never (cc)
+    by (Ok x) q = cc
 
 pub stepped_fits : (r : Record) (w : Arrived) → r.used ≡ true → well_formed r ≡ true → length r.places ≡ 4 → w.len ≤ most_contents
-    → (stepped r w).number ≡ 0 → Fits (stepped r w).plan
-stepped_fits r w used well four fits e = rw (stepped_taken r w e) (plan_fits r w used well four fits)
+    → (p : Plan) → stepped r w ≡ Ok p → Fits p
+stepped_fits r w used well four fits p e = rw (stepped_taken r w p e) (plan_fits r w used well four fits)

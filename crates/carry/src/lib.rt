@@ -8,9 +8,13 @@ ghost use Rattle.carry.specs.Fits.{Fits};
 
 use counter::{Reliable, Total};
 use message::MOST_CONTENTS;
-use octets::{copy_into, copy_part};
-use record::Place;
+use octets::copy_into;
 use wrapper::{Arrived, Fate, Plan};
+
+// The octets that are lent: four places of contents for each of eight records, and five cells for deliveries (01, "Room").
+pub const HELD: usize = 46528;
+
+pub const DELIVER: usize = 7270;
 
 // A delivered wrapper. Its contents are the first `len` octets of the delivery cell of the same turn.
 #[derive(Clone, Copy)]
@@ -21,7 +25,7 @@ pub struct Delivery {
     pub len: u16,
 }
 
-// The first `count` of `each` are what was delivered, in order.
+// The first `count` of `each` are what was delivered, in order: an array with its count beside it, since the library has no heap.
 #[derive(Clone, Copy)]
 pub struct Deliveries {
     pub each: [Delivery; 5],
@@ -44,123 +48,105 @@ pub fn no_deliveries() -> Deliveries
     }
 }
 
-// Where place j of record i lies in the held octets.
+// Where place j of record i lies in the held octets. That i is below eight is a premise here and above and no type of its own: it is an index of the
+// table, and a type round it would be taken off again at each of the definitions, which speak of the number.
+#[tactic(auto, unfolding(crate::specs::Carried::place_begins))]
 fn place_begins(i: usize, j: usize) -> usize
     requires { (i < 8) × (j < 4) }
-    ensures { result ≡ place_begins i j }
+    ensures { (result ≡ place_begins i j) × (result + most_contents ≤ 46528) }
 {
     (i * 4 + j) * MOST_CONTENTS
 }
 
-// A wrapper that is held: its contents are copied into its place of record i.
-fn put_held(held: &mut [u8], i: usize, fate: Fate, contents: &[u8])
-    requires i_bound { (i < 8) × ((j : ℕ) → fate ≡ Fate.Held j → j < 4) }
-    requires held_len { (length held.old ≡ 46528) × (length contents.now ≤ most_contents) }
-    ensures { held.new ≡ held_after i fate contents.now held.old }
-{
-    let Fate::Held(j) = fate else {
-        return;
-    };
-    copy_into(held, place_begins(i, j), contents);
-}
-
-// The wrapper itself, if it is delivered at once, is the first delivery.
-fn deliver_first(deliver: &mut [u8], fate: Fate, w: Arrived, contents: &[u8]) -> Deliveries
-    requires { (length deliver.old ≡ 7270) × (length contents.now ≤ most_contents) }
-    ensures { (result ≡ listed no_deliveries (at_once fate w contents.now)) × (deliver.new ≡ deliver_from 0 (at_once fate w contents.now) deliver.old) }
-{
-    let mut d = no_deliveries();
-    let Fate::Delivered = fate else {
-        return d;
-    };
-    copy_into(deliver, 0, contents);
-    let total = w.total;
-    let reliable = w.reliable;
-    d.each[0] = Delivery {
-        reliably: w.reliably,
-        total,
-        reliable,
-        len: w.len,
-    };
-    d.count = 1;
-    d
-}
-
-// The wrapper that place j of record i held is the next delivery. A freed place keeps its numbers and length.
-fn deliver_place(
-    deliver: &mut [u8],
-    held: &[u8],
-    i: usize,
-    j: usize,
-    p: Place,
+// One delivery more: its contents are copied into the next cell.
+#[tactic(auto, unfolding(crate::specs::Carried::deliver_from))]
+fn deliver_one(
+    deliver: &mut [u8; DELIVER],
     before: Deliveries,
+    delivery: Delivery,
+    contents: &[u8],
 ) -> Deliveries
-    requires i_bound { (i < 8) × (j < 4) × (p.len ≤ most_contents) × (before.count < 5) }
-    requires held_len { (length held.now ≡ 46528) × (length deliver.old ≡ 7270) }
-    ensures { (result ≡ one_more before (from_place held.now i j p)) × (deliver.new ≡ deliver_from before.count (from_place held.now i j p ∷ []) deliver.old) }
+    requires { (before.count < 5) × (length contents.now ≤ most_contents) }
+    ensures { (result ≡ one_more before (record { delivery = delivery; contents = contents.now })) × (deliver.new ≡ deliver_from before.count (record { delivery = delivery; contents = contents.now } ∷ []) deliver.old) }
 {
-    let total = p.total;
-    let reliable = p.reliable;
-    let mut d = before;
-    let n = d.count;
-    copy_part(
-        deliver,
-        n * MOST_CONTENTS,
-        held,
-        place_begins(i, j),
-        p.len as usize,
-    );
-    d.each[n] = Delivery {
-        reliably: true,
-        total,
-        reliable,
-        len: p.len,
-    };
-    d.count = n + 1;
-    d
+    copy_into(deliver, before.count * MOST_CONTENTS, contents);
+    let mut each = before.each;
+    each[before.count] = delivery;
+    Deliveries {
+        each,
+        count: before.count + 1,
+    }
 }
 
-// The held wrappers of record i that are released follow in their order.
+// The wrapper itself: it is the first delivery, its contents are copied into a place of record i, or it is dropped.
+#[tactic(auto, unfolding(crate::specs::Carried::listed, crate::specs::Carried::deliver_from))]
+fn carry_itself(
+    held: &mut [u8; HELD],
+    deliver: &mut [u8; DELIVER],
+    i: usize,
+    w: Arrived,
+    fate: Fate,
+    contents: &[u8],
+) -> Deliveries
+    requires { (i < 8) × ((j : ℕ) → fate ≡ Fate.Held j → j < 4) × (length contents.now ≤ most_contents) }
+    ensures { (result ≡ listed no_deliveries (at_once fate w contents.now)) × (held.new ≡ held_after i fate contents.now held.old) × (deliver.new ≡ deliver_from 0 (at_once fate w contents.now) deliver.old) }
+{
+    match fate {
+        Fate::Delivered => {
+            let itself = Delivery {
+                reliably: w.reliably,
+                total: w.total,
+                reliable: w.reliable,
+                len: w.len,
+            };
+            deliver_one(deliver, no_deliveries(), itself, contents)
+        }
+        Fate::Held(j) => {
+            copy_into(held, place_begins(i, j), contents);
+            no_deliveries()
+        }
+        Fate::Dropped => no_deliveries(),
+    }
+}
+
+// The held wrappers of record i that are released follow in their order. A freed place keeps its numbers and length.
 fn deliver_held(
-    deliver: &mut [u8],
-    held: &[u8],
+    deliver: &mut [u8; DELIVER],
+    held: &[u8; HELD],
     i: usize,
     plan: Plan,
     first: Deliveries,
 ) -> Deliveries
-    requires i_bound { (i < 8) × Fits plan × (first.count ≤ 1) }
-    requires held_len { (length held.now ≡ 46528) × (length deliver.old ≡ 7270) }
+    requires { (i < 8) × Fits plan × (first.count ≤ 1) }
     ensures { (result ≡ listed first (from_places held.now i plan.after.places (take plan.count plan.order))) × (deliver.new ≡ deliver_from first.count (from_places held.now i plan.after.places (take plan.count plan.order)) deliver.old) }
 {
-    let after = plan.after;
-    let places = after.places;
-    let order = plan.order;
-    let mut d = first;
-    let mut k: usize = 0;
-    while k < plan.count {
-        let j = order[k];
-        let p = places[j];
-        d = deliver_place(deliver, held, i, j, p, d);
-        k += 1;
+    let mut all = first;
+    for &j in &plan.order[..plan.count] {
+        let p = plan.after.places[j];
+        let begin = place_begins(i, j);
+        let released = Delivery {
+            reliably: true,
+            total: p.total,
+            reliable: p.reliable,
+            len: p.len,
+        };
+        all = deliver_one(deliver, all, released, &held[begin..begin + p.len as usize]);
     }
-    d
+    all
 }
 
 // The plan of a step of record i by a wrapper: its contents are held or delivered, and what is released follows.
 pub fn carry_out(
-    held: &mut [u8],
-    deliver: &mut [u8],
+    held: &mut [u8; HELD],
+    deliver: &mut [u8; DELIVER],
     i: usize,
     w: Arrived,
     plan: Plan,
     contents: &[u8],
 ) -> Deliveries
-    requires i_bound { (i < 8) × Fits plan × (length contents.now ≤ most_contents) }
-    requires held_len { (length held.old ≡ 46528) × (length deliver.old ≡ 7270) }
+    requires { (i < 8) × Fits plan × (length contents.now ≤ most_contents) }
     ensures { (result ≡ listed no_deliveries (delivered_by held.old i w contents.now plan)) × (held.new ≡ held_after i plan.fate contents.now held.old) × (deliver.new ≡ deliver_from 0 (delivered_by held.old i w contents.now plan) deliver.old) }
 {
-    let fate = plan.fate;
-    put_held(held, i, fate, contents);
-    let first = deliver_first(deliver, fate, w, contents);
+    let first = carry_itself(held, deliver, i, w, plan.fate, contents);
     deliver_held(deliver, held, i, plan, first)
 }

@@ -7,7 +7,7 @@ ghost use Rattle.record.specs.With.{with_idle};
 ghost use Rattle.record.specs.WellFormed.{well_formed};
 ghost use Rattle.gap.specs.Standoff.{standoff, standoff_of};
 ghost use Rattle.gap.specs.Range.{nearer, nearest, nak_last};
-ghost use Rattle.gap.specs.Elapsed.{in_standoff, in_wait, phased, elapsed_of};
+ghost use Rattle.gap.specs.Elapsed.{gives, in_standoff, in_wait, phased, elapsed_of};
 
 use counter::{Counter, Reliable};
 use record::{Gap, Place, Reason, Record, Terms, max_retries, nak_timeout};
@@ -30,6 +30,18 @@ pub enum Event {
 pub struct Elapsed {
     pub after: Record,
     pub event: Event,
+}
+
+impl Elapsed {
+    // Nothing is sent.
+    fn silent(after: Record) -> Elapsed
+        ensures { result ≡ gives after Event.Nothing }
+    {
+        Elapsed {
+            after,
+            event: Event::Nothing,
+        }
+    }
 }
 
 // The time of a standoff. The sum is not wrapped. Of a modulus of 0, which no well-formed record has, the sum is its own remainder.
@@ -88,23 +100,20 @@ fn in_standoff(r: Record, left: u32, count: u8) -> Elapsed
     requires { count < max_retries }
     ensures { result ≡ in_standoff r left count }
 {
-    if left == 0 {
-        return Elapsed {
-            after: r.with_gap(Gap::Waiting {
-                left: nak_timeout(r.terms.expiry),
-                count: count + 1,
-            }),
-            event: Event::Nak {
-                reliable: r.reliable,
-                first: r.reliable.next(),
-                last: nak_last(r),
-                outbound: r.terms.outbound,
-            },
-        };
+    if left > 0 {
+        return Elapsed::silent(r.with_gap(Gap::Standoff { left, count }));
     }
     Elapsed {
-        after: r.with_gap(Gap::Standoff { left, count }),
-        event: Event::Nothing,
+        after: r.with_gap(Gap::Waiting {
+            left: nak_timeout(r.terms.expiry),
+            count: count + 1,
+        }),
+        event: Event::Nak {
+            reliable: r.reliable,
+            first: r.reliable.next(),
+            last: nak_last(r),
+            outbound: r.terms.outbound,
+        },
     }
 }
 
@@ -113,24 +122,19 @@ fn in_standoff(r: Record, left: u32, count: u8) -> Elapsed
 fn in_wait(r: Record, left: u32, count: u8) -> Elapsed
     ensures { result ≡ in_wait r left count }
 {
-    if left == 0 && count == max_retries() {
+    if left > 0 {
+        return Elapsed::silent(r.with_gap(Gap::Waiting { left, count }));
+    }
+    if count == max_retries() {
         return Elapsed {
             after: r.with_gap(Gap::Waiting { left, count }).freed(),
             event: Event::Leaving(Reason::LostSequence, r.reliable),
         };
     }
-    let gap = if left == 0 {
-        Gap::Standoff {
-            left: standoff_of(r),
-            count,
-        }
-    } else {
-        Gap::Waiting { left, count }
-    };
-    Elapsed {
-        after: r.with_gap(gap),
-        event: Event::Nothing,
-    }
+    Elapsed::silent(r.with_gap(Gap::Standoff {
+        left: standoff_of(r),
+        count,
+    }))
 }
 
 // The phase's time falls by `ms`, and the phase makes one move if none is left.
@@ -140,10 +144,7 @@ fn phase_step(r: Record, ms: u32) -> Elapsed
     ensures { result ≡ phased r r.gap ms }
 {
     match r.gap {
-        Gap::Quiet => Elapsed {
-            after: r,
-            event: Event::Nothing,
-        },
+        Gap::Quiet => Elapsed::silent(r),
         Gap::Standoff { left, count } => in_standoff(r, left.saturating_sub(ms), count),
         Gap::Waiting { left, count } => in_wait(r, left.saturating_sub(ms), count),
     }
@@ -156,10 +157,7 @@ pub fn elapsed_step(r: Record, ms: u32) -> Elapsed
     ensures { result ≡ elapsed_of r ms }
 {
     if !r.used {
-        return Elapsed {
-            after: r,
-            event: Event::Nothing,
-        };
+        return Elapsed::silent(r);
     }
     let later = Record {
         idle: r.idle + ms,

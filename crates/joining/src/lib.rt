@@ -137,6 +137,7 @@ pub fn new_record(old: Record, owner: Cid, j: Join, p: Parameters, reciprocal: u
     }
 }
 
+// Apart from `asked_at`, since a record's terms and a Join have nothing in common: one function of both would be the struct's literal.
 #[tactic(auto, unfolding(crate::specs::Replies::member_at))]
 fn member_at(t: Terms, reliable: Reliable) -> Membership
     ensures { result ≡ member_at t reliable }

@@ -11,7 +11,7 @@ use borrow.Author.Tests.{ltb-true, leb-true, eqb-true, eqb-false, lt-ltb, le-leb
 use Rattle.counter.specs.Distance.{ahead}
 use Rattle.counter.specs.declared.Reliable.{Reliable}
 use Rattle.counter.proofs.Distances.{at_least, test_not_farther}
-use Rattle.record.specs.Profile.{min_expiry, nak_timeout, max_retries}
+use Rattle.record.specs.Profile.{nak_timeout, max_retries}
 use Rattle.record.specs.Legal.{legal_names, legal_parameters}
 use Rattle.record.specs.Places.{place_at}
 use Rattle.record.specs.WellFormed.{most_contents, held_right, apart, apart_from, held_apart, held_all_right, closed, gap_right, terms_right, well_formed}
@@ -238,18 +238,8 @@ module _ {r : Record} (f : Formed r) where
   unfolding legal_parameters
   has_modulus = let h : r.terms.modulus ≢ 0 = not_zero _ (both _ _ f.legal_parameters).0 in omega arith
 
-  pub least_expiry : min_expiry ≤ r.terms.expiry
-  unfolding legal_parameters
-  least_expiry = leb-true _ _ (both (not (eqb r.terms.modulus 0)) _ f.legal_parameters).1
-
-  pub idle_below : r.terms.expiry < 256 → r.idle < 255000
-  idle_below h = omega (arith, f.idle)
-
   pub standoff_count : (left count : ℕ) → r.gap ≡ Standoff left count → count < max_retries
   standoff_count left count e = (rw e at f.gap).1
-
-  pub wait_count : (left count : ℕ) → r.gap ≡ Waiting left count → (1 ≤ count) × (count ≤ max_retries)
-  wait_count left count e = let p = (rw e at f.gap) in (p.1, p.2)
 
   pub quiet_exactly : (r.gap ≡ Quiet) ↔ (r.known.0 ≡ r.reliable.0)
   quiet_exactly = (λ e. rw e at f.gap, only r.gap f.gap)

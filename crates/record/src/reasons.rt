@@ -28,16 +28,16 @@ impl Reason {
     fn is_of_leaving(self) -> bool
         ensures { result ≡ leaving_reason (number_of self) }
     {
-        match self {
+        matches!(
+            self,
             Reason::Nonspecific
-            | Reason::NoReciprocal
-            | Reason::ChannelExpired
-            | Reason::LostSequence
-            | Reason::Saturated
-            | Reason::AddressChanging
-            | Reason::AskedToLeave => true,
-            _ => false,
-        }
+                | Reason::NoReciprocal
+                | Reason::ChannelExpired
+                | Reason::LostSequence
+                | Reason::Saturated
+                | Reason::AddressChanging
+                | Reason::AskedToLeave
+        )
     }
 }
 

@@ -85,6 +85,7 @@ fn take_wrapper(r: Record, w: Arrived) -> Plan
     let placed = hold::place_wrapper(judge::hear(r, w.reliable), w);
     let released = release::release(placed.after);
     let settled = settle::settle(released.after, w);
+    // On its own: no proof is made where an array goes from a field straight into another.
     let order = released.order;
     Plan {
         after: settled.after,
