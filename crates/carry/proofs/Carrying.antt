@@ -1,16 +1,13 @@
 -- What the functions of `carry` come to, over plain variables: the leaves of a fate, where places end, and the turns of the
 -- deliveries from held places. Assumes nothing.
-use Prim.Native.Nat.{ℕ, ◌+◌, ◌-◌, ◌*◌, ◌<◌, ◌≤◌}
+use Prim.Native.Nat.{ℕ, ◌+◌, ◌-◌, ◌<◌, ◌≤◌}
 use mathlib.Core.List.{List, [], ◌∷◌}
-use mathlib.Core.Logic.{⊎_elim}
-use mathlib.Core.Path.{◌≡◌, refl, sym, ◌∙◌}
+use mathlib.Core.Path.{◌≡◌, sym, ◌∙◌}
 use native.Mathlib.Numerals.{add-one}
 use native.Mathlib.Omega.{arith}
 use Rattle.std.specs.Prelude.{slice_range}
-use lib.ListN.{length, get_or, set, take, drop, drop_of_length-le}
-use lib.Seq.{drop-cons, get_or-take, length-take-le}
-use denote.Enum.Declared.{tag_of}
-use types.Run.{OneOf}
+use lib.ListN.{length, get_or, take, drop, drop_of_length-le}
+use lib.Seq.{drop-cons}
 use Rattle.record.specs.Places.{place_at}
 use Rattle.record.specs.WellFormed.{most_contents}
 use Rattle.record.specs.declared.Place.{Place}
@@ -18,8 +15,6 @@ use Rattle.wrapper.specs.declared.Arrived.{Arrived}
 use Rattle.wrapper.specs.declared.Fate.{Fate}
 use Rattle.wrapper.specs.declared.Fate.TheVariants.{Delivered, Held, Dropped}
 use Rattle.wrapper.specs.declared.Plan.{Plan}
-use Rattle.wrapper.specs.contracts.Fate.{the_type}
-use Rattle.octets.specs.Octets.{part, splice}
 use Rattle.carry.specs.Carried as carried
 use Rattle.carry.specs.Carried.{place_begins, held_after, at_once, from_place, from_places, delivered_by, deliver_from, no_deliveries, one_more, listed}
 use Rattle.carry.specs.declared.Deliveries.{Deliveries}

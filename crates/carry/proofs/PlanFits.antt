@@ -10,11 +10,9 @@ use native.Mathlib.Omega.{arith}
 use lib.ListN.{length, get_or, set, length-set}
 use Rattle.std.specs.Prelude.{Option, Some, None, Result, Ok, Err}
 use Rattle.refusal.specs.declared.Refusal.{Refusal}
-use Rattle.counter.specs.declared.Reliable.{Reliable}
 use Rattle.record.specs.Places.{no_place, place_at}
-use Rattle.record.specs.Reasons.{lost_sequence}
 use Rattle.record.specs.WellFormed.{most_contents, closed, well_formed}
-use Rattle.record.specs.With.{freed, with_numbers, with_gap, with_acked}
+use Rattle.record.specs.With.{with_numbers, with_gap, with_acked}
 use Rattle.record.specs.declared.Gap.TheVariants as gap
 use Rattle.record.specs.declared.Place.{Place}
 use Rattle.record.specs.declared.Record.{Record}

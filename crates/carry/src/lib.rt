@@ -48,8 +48,8 @@ pub fn no_deliveries() -> Deliveries
     }
 }
 
-// Where place j of record i lies in the held octets. That i is below eight is a premise here and above and no type of its own: it is an index of the
-// table, and a type round it would be taken off again at each of the definitions, which speak of the number.
+// Where place j of record i lies in the held octets.
+// That i is below eight is a premise, and i no type of its own: callers have it of a search of the table, and each definition would take the type off again.
 #[tactic(auto, unfolding(crate::specs::Carried::place_begins))]
 fn place_begins(i: usize, j: usize) -> usize
     requires { (i < 8) × (j < 4) }

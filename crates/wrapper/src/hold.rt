@@ -11,11 +11,7 @@ use record::{Place, Record, lowest};
 fn is_next_one(r: Record, w: Arrived) -> bool
     ensures { result ≡ next_one r w }
 {
-    let e = r.reliable.distance_to(w.reliable);
-    if w.reliably {
-        return e == 1;
-    }
-    e == 0
+    r.reliable.distance_to(w.reliable) == i32::from(w.reliably)
 }
 
 // Whether a held wrapper has this reliable number.

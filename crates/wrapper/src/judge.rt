@@ -12,9 +12,10 @@ fn is_consistent(reliably: bool, d: i32, e: i32) -> bool
     ensures { result ≡ consistent reliably d e }
 {
     if reliably {
-        return 1 <= e && e <= d;
+        1 <= e && e <= d
+    } else {
+        0 <= e && e < d
     }
-    0 <= e && e < d
 }
 
 // Step 1: refused as old or as inconsistent, or let pass.

@@ -1,6 +1,5 @@
 -- `carry_out` meets its contract: what is released follows the wrapper itself. Assumes nothing.
 use Rattle.carry.proofs.Carrying.{first_most, all_listed, all_written}
-use Rattle.std.proofs.Common.{rules}
 use Rattle.carry.proofs.carry_out.Goals as goal
 
 pub deliver_held-requires : goal.deliver_held-requires

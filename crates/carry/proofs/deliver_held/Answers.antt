@@ -1,5 +1,5 @@
 -- `deliver_held` meets its contract: each turn delivers the wrapper of its place, and in the end nothing is left. Assumes nothing.
-use Rattle.std.proofs.Common.{ℕ, ◌≡◌, ◌+◌, ◌<◌, List, [], ◌∷◌, length, get_or, take, arith, rules, ap, ◌∙◌}
+use Rattle.std.proofs.Common.{◌≡◌, ◌+◌, ◌<◌, [], ◌∷◌, length, get_or, take, arith, rules, ap, ◌∙◌}
 use Rattle.carry.specs.Carried.{Delivered, one_more, deliver_from, listed}
 use Rattle.carry.specs.declared.Deliveries.{Deliveries}
 use Rattle.carry.proofs.Carrying.{this_is, left_none, listed_turn, written_turn}
