@@ -43,11 +43,11 @@ use Rattle.member.specs.Sizes.{deliver_size, reply_size, message_sizes, elapsed_
 use Rattle.member.specs.Messages.{Outcome, refused_message, existing_at, join_outcome, plan_outcome, stepped_outcome, wrapper_outcome, asked_outcome, message_outcome}
 use Rattle.member.specs.Elapsing.{longest, Passing, refused_elapsed, passing, elapsed_outcome, sent_by}
 use Rattle.member.specs.Leaving.{Departing, refused_leave, departing, leave_for, leave_outcome}
-use Rattle.demands.specs.Calls.{Sound, Both}
+use Rattle.demands.specs.Calls.{Sound}
 use Rattle.demands.specs.Channel.{entry_at}
 use Rattle.demands.specs.ReadBack.{ReadFrom, reply_means, event_means, given_means, leave_means, FitTerms, FitAsked, FitExisting, Wide}
-use Rattle.demands.proofs.Lemmas.Asks as asks
-use Rattle.demands.proofs.Lemmas.Asks.{Asks}
+use Rattle.demands.proofs.Lemmas.OneStep.{brought}
+use Rattle.demands.proofs.Lemmas.Outcomes.{message_cases}
 use Rattle.record.proofs.Choices.{either}
 use Rattle.demands.proofs.Lemmas.Brought.{wrapper_says}
 use Rattle.demands.proofs.Lemmas.Sample as sample
@@ -55,65 +55,32 @@ use Rattle.demands.proofs.RepliesReadBack.{none_read, step_reply_read, elapsed_r
 
 -- ---- message calls
 
-abbrev Reads : List Record → Cid → Join → ℕ → Outcome → Type 0
-Reads ts o j n out = ReadFrom out.reply 0 (given_means ts o j n out.given)
-
-module _ (ts : List Record) (wide : Wide ts) (held : List ℕ) (o : Cid) (n : ℕ) where
-  -- what the table has for a Join
-  existing_at_lem : (c : ℕ) (f : Option ℕ) → found 0 o c ts ≡ f → FitExisting (existing_at ts f)
-  existing_at_lem c None e = tt
-  existing_at_lem c (Some i) e =
-      let w = wide i (found_at_lem o c ts i e).0 in
-      existing_fits (record_at ts i) w.0 w.1
-
-  join_reads : (j : Join) → FitAsked o j → Octets 2 n → Reads ts o j n (join_outcome ts held o j n)
-  unfolding join_outcome
-  join_reads j f g =
-      decided_read o j (existing_at ts (found 0 o j.channel ts)) n (is_some (lowest_free 0 ts)) f g
-      (existing_at_lem j.channel (found 0 o j.channel ts) refl)
-
-  step_reads : (j : Join) (k : ℕ) (w : Arrived) (c : List ℕ) → k < length ts → Both w.total w.reliable
-      → Reads ts o j n (wrapper_outcome ts held k w c)
-  unfolding wrapper_outcome plan_outcome
-  step_reads j k w c l b = by (stepped (record_at ts k) w) refl
-    where
-      by : (r : Result Plan Refusal) → stepped (record_at ts k) w ≡ r → Reads ts o j n (stepped_outcome ts held k w c r)
-      by (Ok plan) e =
-          subst (λ (p : Plan). ReadFrom (reply_of p.after.terms p.reply) 0 (reply_means (record_at ts k).terms p.reply))
-          (sym (stepped_taken (record_at ts k) w plan e))
-          (step_reply_read (record_at ts k) w (wide k l).0 (wide k l).1 b)
-      by (Err why) e = none_read
-
-  wrapper_reads : (j : Join) (reliably : Bool) (w : Wrapper) (len : ℕ) (c : List ℕ) → Both w.total w.reliable
-      → (f : Option ℕ) → found 0 o w.channel ts ≡ f → Reads ts o j n (asked_outcome ts held o n c (wrapper_for f reliably w len))
-  wrapper_reads j reliably w len c b None e = none_read
-  wrapper_reads j reliably w len c b (Some k) e =
-      either (λ (a : Result Asked Refusal). Reads ts o j n (asked_outcome ts held o n c a)) (ltb most_contents len) _ _ none_read
-      (step_reads j k (arrived_of reliably w len) c (found_at_lem o w.channel ts k e).0 b)
-
-  asked_reads : (ours : Cid) (v : ℕ) (d : List ℕ) → Bytes d → FitAsked o (join_of d) → Octets 2 n → {a : Result Asked Refusal} → Asks ts o ours v d a
-      → Reads ts o (join_of d) n (asked_outcome ts held o n (contents d) a)
-  unfolding join_asks wrapper_asks
-  asked_reads ours v d b f g (asks.refuses why) = none_read
-  asked_reads ours v d b f g (asks.joins r e) =
-      either (λ (a : Result Asked Refusal). Reads ts o (join_of d) n (asked_outcome ts held o n (contents d) a)) (same (join_of d).cid ours) _ _
-      (join_reads (join_of d) f g)
-      none_read
-  asked_reads ours v d b f g (asks.wraps r w) =
-      wrapper_reads (join_of d) (eqb v reliable_wrapper) (wrapper_of d) (length (contents d)) (contents d) (wrapper_says v d b)
-      (found 0 o (wrapper_of d).channel ts) refl
-
 -- the octets of the reply to a message are read as what the answer says
 pub message_replies : (ts : List Record) (held : List ℕ) (deliver reply : ℕ) (sender ours : List ℕ) (v : ℕ) (d : List ℕ) (n : ℕ)
     → Wide ts → Bytes sender → Bytes d → Octets 2 n
     → ReadFrom (message_outcome ts held deliver reply sender ours v d n).reply 0
     (given_means ts (cid_at sender 0) (join_of d) n (message_outcome ts held deliver reply sender ours v d n).given)
-unfolding message_outcome
+unfolding join_outcome plan_outcome
 message_replies ts held deliver reply sender ours v d n wide b c g =
-    let o = cid_at sender 0 in
-    either (Reads ts o (join_of d) n) (not (message_sizes (length ts) (length held) deliver reply (length sender) (length ours))) _ _ none_read
-    (either (Reads ts o (join_of d) n) (not (table_formed ts)) _ _ none_read
-    (asked_reads ts wide held o n (cid_at ours 0) v d c (join_fits sender d b c) g (asks.asks ts o (cid_at ours 0) v d)))
+    message_cases ts held deliver reply sender ours v d n (λ out. ReadFrom out.reply 0 (given_means ts o j n out.given)) (λ why. none_read)
+    (decided_read o j (existing_at ts (found 0 o j.channel ts)) n (is_some (lowest_free 0 ts)) (join_fits sender d b c) g
+    (known (found 0 o j.channel ts) refl))
+    (λ sized i carries.
+    let w = wide i carries.within in
+    step_reply_read (record_at ts i) (brought v d) w.0 w.1 (wrapper_says v d c))
+  where
+    o : Cid
+    o = cid_at sender 0
+
+    j : Join
+    j = join_of d
+
+    -- what the table has for the Join
+    known : (f : Option ℕ) → found 0 o j.channel ts ≡ f → FitExisting (existing_at ts f)
+    known None e = tt
+    known (Some i) e =
+        let w = wide i (found_at_lem o j.channel ts i e).0 in
+        existing_fits (record_at ts i) w.0 w.1
 
 -- ---- elapsed calls
 

@@ -70,9 +70,8 @@ use Rattle.demands.specs.Calls.{Call, State, table_step, Sound, Lawful, Right}
 use Rattle.demands.specs.Channel.{Channel, Told, own, one, live, channel_at, view_at, planned, elapsed_on, names, is_cid}
 use Rattle.demands.specs.Order.{delivered_in, delivered_all, InTurn, reliable_numbers, following, BroughtBy, here, later, From, received, kept, Makes, makes}
 use Rattle.demands.proofs.Lemmas.Running.{own_each, along}
+use Rattle.demands.proofs.Lemmas.Outcomes.{message_cases}
 use Rattle.demands.proofs.Lemmas.OneStep.{refuses, joins, brought, Does, answers, wraps, passes, leaves, does}
-use Rattle.demands.proofs.Lemmas.Asks as asks
-use Rattle.demands.proofs.Lemmas.Asks.{Asks}
 use Rattle.record.proofs.Choices.{either, never}
 use Rattle.demands.proofs.Lemmas.OneMessage.{lent_length}
 use Rattle.demands.proofs.Lemmas.Brought.{wrapper_says}
@@ -262,61 +261,31 @@ delivered_once i owner channel s cs each joined a b most l h =
 
 -- ---- from the Join on
 
-module _ (ts : List Record) (i : ℕ) (p : Parameters) where
-  -- record i was made by this Join: it is the one of the table, and the one that is told of
-  abbrev Made : Cid → Join → ℕ → Outcome → Type 0
-  Made o j n out =
-      out.given ≡ Ok (given.Joined (Some i) (decision.Make p))
-      → (out.table ≡ set ts i (new_record (record_at ts i) o j p n)) × (i < length ts)
+-- a call that is answered so made record i by the Join that it brings: it is the one of the table, and the one that is told of
+message_made : (ts : List Record) (i : ℕ) (p : Parameters) (held : List ℕ) (deliver reply : ℕ) (sender ours : List ℕ) (v : ℕ) (d : List ℕ) (n : ℕ)
+    → (message_outcome ts held deliver reply sender ours v d n).given ≡ Ok (given.Joined (Some i) (decision.Make p))
+    → ((message_outcome ts held deliver reply sender ours v d n).table
+    ≡ set ts i (new_record (record_at ts i) (cid_at sender 0) (join_of d) p n))
+    × (i < length ts)
+unfolding join_outcome plan_outcome
+message_made ts i p held deliver reply sender ours v d n =
+    message_cases ts held deliver reply sender ours v d n Made (λ why e. never (cc)) (joined_made _ (lowest_free 0 ts) _ refl)
+    (λ sized k carries e. never (cc))
+  where
+    Made : Outcome → Type 0
+    Made out =
+        out.given ≡ Ok (given.Joined (Some i) (decision.Make p))
+        → (out.table ≡ set ts i (new_record (record_at ts i) (cid_at sender 0) (join_of d) p n)) × (i < length ts)
 
-  module _ (held : List ℕ) (o : Cid) (j : Join) (n : ℕ) where
-    refused_made : (why : Refusal) → Made o j n (refused_message ts held why)
-    refused_made why e = never (cc)
-
-    join_made : (known free : Option ℕ) (answer : Decision) → lowest_free 0 ts ≡ free → Made o j n (join_done ts held o j n known free answer)
-    join_made known free (decision.Refuse reason) f e = never (cc)
-    join_made known free (decision.Again r reciprocal) f e = never (cc)
-    join_made known None (decision.Make q) f e = never (cc)
-    join_made known (Some k) (decision.Make q) f e =
+    joined_made : (known free : Option ℕ) (answer : Decision) → lowest_free 0 ts ≡ free
+        → Made (join_done ts held (cid_at sender 0) (join_of d) n known free answer)
+    joined_made known free (decision.Refuse reason) f e = never (cc)
+    joined_made known free (decision.Again r reciprocal) f e = never (cc)
+    joined_made known None (decision.Make q) f e = never (cc)
+    joined_made known (Some k) (decision.Make q) f e =
         let at : k ≡ i = cc in
         let parameters : q ≡ p = cc in
         (rw (at, parameters), subst (λ (m : ℕ). m < length ts) at (free_at ts k f).0)
-
-    plan_made : (k : ℕ) (w : Arrived) (c : List ℕ) → Made o j n (wrapper_outcome ts held k w c)
-    unfolding wrapper_outcome plan_outcome
-    plan_made k w c = by (stepped (record_at ts k) w)
-      where
-        by : (r : Result Plan Refusal) → Made o j n (stepped_outcome ts held k w c r)
-        by (Ok plan) e = never (cc)
-        by (Err why) e = refused_made why e
-
-    wrapper_made : (f : Option ℕ) (b : Bool) (w : Wrapper) (len : ℕ) (c : List ℕ) → Made o j n (asked_outcome ts held o n c (wrapper_for f b w len))
-    wrapper_made None b w len c = refused_made refusal.NoRecord
-    wrapper_made (Some k) b w len c =
-        either (λ (a : Result Asked Refusal). Made o j n (asked_outcome ts held o n c a)) (ltb most_contents len) _ _ (refused_made refusal.ContentsOver) (plan_made k (arrived_of b w len) c)
-
-  asked_made : (held : List ℕ) (o ours : Cid) (v : ℕ) (d : List ℕ) (n : ℕ) {a : Result Asked Refusal} → Asks ts o ours v d a
-      → Made o (join_of d) n (asked_outcome ts held o n (contents d) a)
-  unfolding join_asks join_outcome wrapper_asks
-  asked_made held o ours v d n (asks.refuses why) = refused_made held o (join_of d) n why
-  asked_made held o ours v d n (asks.joins r e) =
-      either (λ (a : Result Asked Refusal). Made o (join_of d) n (asked_outcome ts held o n (contents d) a)) (same (join_of d).cid ours) _ _
-      (join_made held o (join_of d) n (found 0 o (join_of d).channel ts) (lowest_free 0 ts)
-      (decided (join_of d) (existing_at ts (found 0 o (join_of d).channel ts)) n (is_some (lowest_free 0 ts))) refl)
-      (refused_made held o (join_of d) n refusal.NotForUs)
-  asked_made held o ours v d n (asks.wraps r w) =
-      wrapper_made held o (join_of d) n (found 0 o (wrapper_of d).channel ts) (eqb v reliable_wrapper) (wrapper_of d) (length (contents d)) (contents d)
-
-  message_made : (held : List ℕ) (deliver reply : ℕ) (sender ours : List ℕ) (v : ℕ) (d : List ℕ) (n : ℕ)
-      → Made (cid_at sender 0) (join_of d) n (message_outcome ts held deliver reply sender ours v d n)
-  unfolding message_outcome
-  message_made held deliver reply sender ours v d n =
-      let o = cid_at sender 0 in
-      either (Made o (join_of d) n) (not (message_sizes (length ts) (length held) deliver reply (length sender) (length ours))) _ _
-      (refused_made held o (join_of d) n refusal.WrongSize)
-      (either (Made o (join_of d) n) (not (table_formed ts)) _ _
-      (refused_made held o (join_of d) n refusal.WrongTable)
-      (asked_made held o (cid_at ours 0) v d n (asks.asks ts o (cid_at ours 0) v d)))
 
 -- the state that such a call leads to, and T and R of its record
 record Begins (i : ℕ) (owner : Cid) (channel : ℕ) (j : Join) (s : State) : Type 0 where

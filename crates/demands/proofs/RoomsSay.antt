@@ -14,16 +14,17 @@ use lib.Seq.{get_or-set_same, get_or-set_other}
 use Rattle.std.specs.Prelude.{⊤, Result, Ok, Err}
 use Rattle.octets.specs.Octets.{part, splice}
 use Rattle.octets.proofs.Writes.{length_splice, part_splice}
+use Rattle.message.specs.Layouts.{cid_at}
+use Rattle.message.specs.Reading.{contents}
 use Rattle.refusal.specs.declared.Refusal.{Refusal}
 use Rattle.record.proofs.Choices.{never}
 use Rattle.record.specs.WellFormed.{most_contents}
 use Rattle.wrapper.specs.Taken.{taken}
-use Rattle.wrapper.specs.declared.Arrived.{Arrived}
 use Rattle.table.specs.Table.{record_at}
 use Rattle.table.proofs.Tables.{formed}
 use Rattle.gap.specs.declared.Elapsed.{Elapsed}
 use Rattle.sending.proofs.Lengths.{event_within}
-use Rattle.carry.specs.Carried.{Delivered, no_deliveries, one_more, listed}
+use Rattle.carry.specs.Carried.{Delivered, delivered_by, no_deliveries, one_more, listed}
 use Rattle.carry.specs.declared.Delivery.{Delivery}
 use Rattle.carry.specs.declared.Deliveries.{Deliveries}
 use Rattle.carry.proofs.Appended.{listed_count}
@@ -33,7 +34,7 @@ use Rattle.carry.specs.Whole.{Each, Whole}
 use Rattle.carry.proofs.DeliveredLength.{delivered_length, delivered_few}
 use Rattle.carry.proofs.DeliverPast.{deliver_cell}
 use Rattle.member.specs.Sizes.{table_size, deliver_size, cell_size, cells_size}
-use Rattle.member.specs.Messages.{Outcome, plan_outcome, message_outcome, messaged_as, messaged, deliver_after, reply_after}
+use Rattle.member.specs.Messages.{Outcome, join_outcome, plan_outcome, message_outcome, messaged_as, messaged, deliver_after, reply_after}
 use Rattle.member.specs.Elapsing.{Passing, sent_by, cells_from, cells_after, passed_as, passed, cell_of}
 use Rattle.member.specs.Leaving.{Departing, left_reply}
 use Rattle.member.specs.declared.Cell.{Cell}
@@ -41,6 +42,7 @@ use Rattle.member.specs.declared.Given.{Given}
 use Rattle.member.specs.declared.Messaged.{Messaged}
 use Rattle.member.specs.declared.Passed.{Passed}
 use Rattle.demands.specs.Calls.{State, Right}
+use Rattle.demands.proofs.Lemmas.OneStep.{brought}
 use Rattle.demands.proofs.Lemmas.Outcomes.{Carries, message_cases}
 use Rattle.demands.specs.Frame.{is_wrapped}
 
@@ -50,24 +52,27 @@ record Stand (ds : List Delivered) : Type 0 where
   few : length ds ≤ 5
 
 module _ (s : State) (right : Right s) where
-  plan_stands : (i : ℕ) (w : Arrived) (c : List ℕ) → Carries s i w c → Stand (plan_outcome s.table s.held i w c (taken (record_at s.table i) w)).delivered
-  unfolding plan_outcome
-  plan_stands i w c carries =
-      let fits =
-      plan_fits (record_at s.table i) w carries.used ((formed s.table right.formed).each i) (right.sound i carries.within).four
-      (omega (arith, carries.said, carries.most)) in
-      record {
-        whole = delivered_length s.held i w c (taken (record_at s.table i) w) fits right.size carries.within carries.said carries.most;
-        few = delivered_few s.held i w c (taken (record_at s.table i) w) fits;
-      }
-
   message_stands_lem : (deliver reply : ℕ) (sender ours : List ℕ) (v : ℕ) (d : List ℕ) (n : ℕ)
       → Stand (message_outcome s.table s.held deliver reply sender ours v d n).delivered
-  message_stands_lem =
-      message_cases s right (λ out. Stand out.delivered) (λ why. nothing) (λ owner j n known free d. nothing) plan_stands
+  unfolding join_outcome plan_outcome
+  message_stands_lem deliver reply sender ours v d n =
+      message_cases s.table s.held deliver reply sender ours v d n (λ out. Stand out.delivered) (λ why. nothing) nothing (λ sized i carries. plan_stands i carries)
     where
       nothing : Stand []
       nothing = record { whole = tt; few = omega arith }
+
+      plan_stands : (i : ℕ) → Carries s.table (cid_at sender 0) v d i
+          → Stand (delivered_by s.held i (brought v d) (contents d) (taken (record_at s.table i) (brought v d)))
+      plan_stands i carries =
+          let below : i < 8 = omega (arith, carries.within, right.eight) in
+          let fits =
+          plan_fits (record_at s.table i) (brought v d) carries.used ((formed s.table right.formed).each i) (right.sound i below).four carries.most in
+          record {
+            whole =
+                delivered_length s.held i (brought v d) (contents d) (taken (record_at s.table i) (brought v d)) fits right.size below refl
+                carries.most;
+            few = delivered_few s.held i (brought v d) (contents d) (taken (record_at s.table i) (brought v d)) fits;
+          }
 
   -- delivery k is read in cell k
   pub deliveries_stand : (deliver reply : ℕ) (sender ours : List ℕ) (v : ℕ) (d : List ℕ) (n : ℕ) (room : List ℕ) (none : Delivered) (k : ℕ)
@@ -143,15 +148,10 @@ module _ (s : State) (right : Right s) (deliver reply : ℕ) (sender ours : List
   -- only a wrapper's step delivers: a refusal and the answer to a Join deliver nothing
   pub wrappers_deliver : is_wrapped (message_outcome s.table s.held deliver reply sender ours v d n).given ≡ false
       → (message_outcome s.table s.held deliver reply sender ours v d n).delivered ≡ []
-  unfolding plan_outcome
+  unfolding join_outcome plan_outcome
   wrappers_deliver =
-      message_cases s right (λ out. is_wrapped out.given ≡ false → out.delivered ≡ []) (λ why e. refl) (λ owner j n known free d e. refl)
-      (λ i w c carries. step i w c) deliver reply sender ours v d n
-    where
-      step : (i : ℕ) (w : Arrived) (c : List ℕ)
-          → is_wrapped (plan_outcome s.table s.held i w c (taken (record_at s.table i) w)).given ≡ false
-          → (plan_outcome s.table s.held i w c (taken (record_at s.table i) w)).delivered ≡ []
-      step i w c e = absurd (false≢true (sym e))
+      message_cases s.table s.held deliver reply sender ours v d n (λ out. is_wrapped out.given ≡ false → out.delivered ≡ []) (λ why e. refl) (λ e. refl)
+      (λ sized i carries e. absurd (false≢true (sym e)))
 
 -- ---- the cells of an elapsed call, and the room of a leave call
 

@@ -9,17 +9,15 @@ use native.Mathlib.Omega.{arith}
 use lib.Dec.{lit<, ltb, eqb}
 use lib.ListN.{length, set, replicate, length-set, length-map, get_or-replicate}
 use borrow.Author.Tests.{eqb-true}
-use Rattle.std.specs.Prelude.{Option, Some, None, is_some, Result, Ok, Err}
+use Rattle.std.specs.Prelude.{Option, Some, None, is_some}
 use Rattle.octets.specs.Octets.{Octets}
-use Rattle.message.specs.Layouts.{cid_at}
+use Rattle.message.specs.Layouts.{cid_at, join_of}
 use Rattle.message.specs.Reading.{contents}
 use Rattle.message.specs.declared.Cid.{Cid}
 use Rattle.message.specs.declared.Join.{Join}
 use Rattle.message.specs.declared.Parameters.{Parameters}
-use Rattle.refusal.specs.declared.Refusal.{Refusal}
-use Rattle.refusal.specs.declared.Refusal.TheVariants as refusal
 use Rattle.record.specs.Reasons.{leaving_reason}
-use Rattle.record.specs.WellFormed.{most_contents, well_formed}
+use Rattle.record.specs.WellFormed.{well_formed}
 use Rattle.record.specs.With.{freed}
 use Rattle.record.specs.declared.Record.{Record}
 use Rattle.record.specs.Places.{place_at, no_place}
@@ -28,9 +26,8 @@ use Rattle.gap.specs.declared.Event.TheVariants as event
 use Rattle.gap.specs.declared.Elapsed.{Elapsed}
 use Rattle.gap.proofs.Moves.{Move, stands, expires, lost, goes_on, moves}
 use Rattle.gap.proofs.Stays.{elapsed_formed, terms_stay}
-use Rattle.wrapper.specs.Taken.{stepped}
+use Rattle.wrapper.specs.Taken.{taken}
 use Rattle.wrapper.specs.declared.Arrived.{Arrived}
-use Rattle.wrapper.specs.declared.Plan.{Plan}
 use Rattle.wrapper.proofs.Stays.{wrapper_stays}
 use Rattle.joining.specs.Joining.{decided, new_record}
 use Rattle.joining.specs.declared.Decision.{Decision}
@@ -41,13 +38,9 @@ use Rattle.table.specs.Table.{named, found, lowest_free, table_formed, blank, fr
 use Rattle.table.proofs.Finding.{found_at_lem, found_nowhere, free_at}
 use Rattle.table.proofs.Tables.{TableFormed, formed, well_formed_lem, free_table_formed, named_is, is_named_lem, Stands, set_at, free_set_formed, same_set_formed, new_set_formed}
 use Rattle.carry.proofs.OwnPlaces.{held_length}
-use Rattle.carry.proofs.PlanFits.{stepped_taken, stepped_fits}
-use Rattle.asking.specs.Asking.{asked_of}
-use Rattle.asking.specs.declared.Asked.{Asked}
-use Rattle.asking.specs.declared.Asked.TheVariants as asked
-use Rattle.asking.proofs.Steps.{asked_wrapper}
+use Rattle.carry.proofs.PlanFits.{plan_fits}
 use Rattle.member.specs.Sizes.{table_size, held_size, message_sizes, elapsed_sizes, leave_sizes}
-use Rattle.member.specs.Messages.{Outcome, existing_at, table_after, refused_message, join_outcome, plan_outcome, stepped_outcome, wrapper_outcome, asked_outcome, message_outcome}
+use Rattle.member.specs.Messages.{Outcome, existing_at, table_after, join_outcome, plan_outcome, message_outcome}
 use Rattle.member.specs.Elapsing.{longest, Passing, elapsed_outcome, passed_table}
 use Rattle.member.specs.Leaving.{Departing, leave_for, departing, leave_outcome}
 use Rattle.demands.specs.Calls as calls
@@ -56,7 +49,9 @@ use Rattle.demands.proofs.Lemmas.Kept.{terms_kept}
 use Rattle.demands.proofs.Lemmas.Owned.{message_sizes_lem}
 use Rattle.record.proofs.Choices.{either, never}
 use Rattle.demands.proofs.Lemmas.Sounds.{sound_by, aside, taken_sound, elapsed_sound, made_sound}
-use Rattle.demands.proofs.Lemmas.Brought.{Brings, asked_brings}
+use Rattle.demands.proofs.Lemmas.Brought.{wrapper_says, join_says}
+use Rattle.demands.proofs.Lemmas.OneStep.{brought}
+use Rattle.demands.proofs.Lemmas.Outcomes.{Carries, Sized, message_cases}
 
 -- ---- a table of the machine's numbers
 
@@ -172,9 +167,6 @@ record Keeps (held : List ℕ) (out : Outcome) : Type 0 where
   size : length out.held ≡ length held
 
 module _ {ts : List Record} (t : RightTable ts) (held : List ℕ) where
-  refused_keeps : (why : Refusal) → Keeps held (refused_message ts held why)
-  refused_keeps why = record { table = t; size = refl }
-
   -- a Join that makes a record finds none of its owner and channel
   new_channel : (s : Cid) (j : Join) (n : ℕ) (p : Parameters) (free : Bool)
       → decided j (existing_at ts (found 0 s j.channel ts)) n free ≡ decision.Make p
@@ -205,74 +197,35 @@ module _ {ts : List Record} (t : RightTable ts) (held : List ℕ) where
   unfolding join_outcome
   join_keeps s j n b = record { table = made_right s j n b _ (lowest_free 0 ts) (is_some (lowest_free 0 ts)) refl refl; size = refl }
 
-  module _
-      (i : ℕ)
-      (w : Arrived)
-      (c : List ℕ)
-      (within : i < length ts)
-      (used : (record_at ts i).used ≡ true)
-      (len : w.len ≡ length c)
-      (fits : w.len ≤ most_contents)
-      (room : length held ≡ held_size)
-      (b : Both w.total w.reliable)
+  message_keeps : (deliver reply : ℕ) (sender ours : List ℕ) (v : ℕ) (d : List ℕ) (n : ℕ) → Octets d
+      → Keeps held (message_outcome ts held deliver reply sender ours v d n)
+  unfolding plan_outcome
+  message_keeps deliver reply sender ours v d n o =
+      message_cases ts held deliver reply sender ours v d n (Keeps held) (λ why. record { table = t; size = refl })
+      (join_keeps (cid_at sender 0) (join_of d) n (join_says v d o)) plan_keeps
     where
-      abbrev r : Record
-      r = record_at ts i
+      w : Arrived
+      w = brought v d
 
-      -- a step that is not refused
-      step_keeps : (plan : Plan) → stepped r w ≡ Ok plan → Keeps held (plan_outcome ts held i w c plan)
-      unfolding plan_outcome
-      step_keeps plan e =
-          let s = sound_at t i within in
+      plan_keeps : Sized ts held deliver reply sender ours v d n → (i : ℕ) → Carries ts (cid_at sender 0) v d i
+          → Keeps held (plan_outcome ts held i w (contents d) (taken (record_at ts i) w))
+      plan_keeps sized i carries =
+          let r = record_at ts i in
+          let s = sound_at t i carries.within in
           let well = t.formed.each i in
-          let same = stepped_taken r w plan e in
-          let after-formed = wrapper_stays r w well used s.four s.reliable (λ j u. s.held j) b.1 fits plan e in
-          let same-terms : plan.after.terms ≡ r.terms = rw same (terms_kept r w) in
-          let after-sound : Sound plan.after = rw same (taken_sound r w s b) in
-          let plan_fits = stepped_fits r w used well s.four fits plan e in
+          let plan = taken r w in
+          let b = wrapper_says v d o in
+          let after-formed = wrapper_stays r w well carries.used s.four s.reliable (λ j u. s.held j) b.1 carries.most plan carries.fresh in
           let eight : length ts ≡ 8 = t.eight in
           record {
             table =
-                set_right t i plan.after within
-                (same_set_formed ts i plan.after within t.formed after-formed used same-terms)
-                after-sound;
-            size = held_length i plan.fate c held (omega arith) plan_fits.place (omega arith) room;
+                set_right t i plan.after carries.within
+                (same_set_formed ts i plan.after carries.within t.formed after-formed carries.used (terms_kept r w))
+                (taken_sound r w s b);
+            size =
+                held_length i plan.fate (contents d) held (omega (arith, carries.within)) (plan_fits r w carries.used well s.four carries.most).place carries.most
+                (message_sizes_lem _ _ deliver reply _ _ sized).0;
           }
-
-      wrapper_keeps : Keeps held (wrapper_outcome ts held i w c)
-      unfolding wrapper_outcome
-      wrapper_keeps = by (stepped r w) refl
-        where
-          by : (o : Result Plan Refusal) → stepped r w ≡ o → Keeps held (stepped_outcome ts held i w c o)
-          by (Ok plan) e = step_keeps plan e
-          by (Err why) e = refused_keeps why
-
-  asked_keeps : (s o : Cid) (v : ℕ) (d : List ℕ) (n : ℕ) → length held ≡ held_size → (a : Result Asked Refusal) → asked_of ts s o v d ≡ a → Brings a
-      → Keeps held (asked_outcome ts held s n (contents d) a)
-  asked_keeps s o v d n room (Err why) e b = refused_keeps why
-  asked_keeps s o v d n room (Ok (asked.Join j)) e b = join_keeps s j n b
-  asked_keeps s o v d n room (Ok (asked.Wrapper i w)) e b =
-      let step = asked_wrapper ts s o i w v d e in
-      wrapper_keeps i w (contents d) step.within step.used step.len step.fits room b
-
-  message_keeps : (deliver reply : ℕ) (sender ours : List ℕ) (v : ℕ) (d : List ℕ) (n : ℕ) → Octets d
-      → Keeps held (message_outcome ts held deliver reply sender ours v d n)
-  unfolding message_outcome
-  message_keeps deliver reply sender ours v d n o = by _ refl
-    where
-      asks : Result Asked Refusal
-      asks = asked_of ts (cid_at sender 0) (cid_at ours 0) v d
-
-      out : Outcome
-      out = asked_outcome ts held (cid_at sender 0) n (contents d) asks
-
-      by : (x : Bool) → message_sizes (length ts) (length held) deliver reply (length sender) (length ours) ≡ x
-          → Keeps held (cond (not x) (refused_message ts held refusal.WrongSize) (cond (not (table_formed ts)) (refused_message ts held refusal.WrongTable) out))
-      by false e = refused_keeps refusal.WrongSize
-      by true e =
-          either (Keeps held) (not (table_formed ts)) (refused_message ts held refusal.WrongTable) out (refused_keeps refusal.WrongTable)
-          (asked_keeps (cid_at sender 0) (cid_at ours 0) v d n (message_sizes_lem _ _ deliver reply _ _ e).0 asks refl
-          (asked_brings ts (cid_at sender 0) (cid_at ours 0) v d o))
 
 -- ---- every call
 

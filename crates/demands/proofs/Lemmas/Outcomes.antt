@@ -1,73 +1,99 @@
--- One case split over a message call on a well-formed table (`message_cases`): what holds of every refusal, of every answer to a Join and of every plan that
--- is carried out holds of what the call comes to.
+-- One case split over a message call on any table (`message_cases`): what holds of every refusal, of the answer to the Join that it brings and of every plan that
+-- is carried out for the wrapper that it brings holds of what the call comes to. Assumes nothing.
+use Prim.{Unit}
 use Prim.Native.Nat.{ℕ, ◌<◌, ◌≤◌}
 use mathlib.Core.Bool.{Bool, true, false, cond, not}
 use mathlib.Core.List.{List}
-use mathlib.Core.Path.{◌≡◌, refl, subst}
+use mathlib.Core.Path.{◌≡◌, refl}
+use lib.Dec.{ltb, eqb}
 use lib.ListN.{length}
-use Rattle.std.specs.Prelude.{Option, Result, Ok, Err}
-use Rattle.message.specs.Layouts.{cid_at}
+use borrow.Author.Tests.{ltb-false}
+use Rattle.std.specs.Prelude.{Option, Some, None, Result, Ok, Err}
+use Rattle.message.specs.Lengths.{reliable_wrapper}
+use Rattle.message.specs.Layouts.{cid_at, wrapper_of, join_of}
 use Rattle.message.specs.Reading.{contents}
 use Rattle.message.specs.declared.Cid.{Cid}
-use Rattle.message.specs.declared.Join.{Join}
 use Rattle.refusal.specs.declared.Refusal.{Refusal}
 use Rattle.refusal.specs.declared.Refusal.TheVariants as refusal
 use Rattle.record.specs.WellFormed.{most_contents}
+use Rattle.record.specs.declared.Record.{Record}
 use Rattle.wrapper.specs.Judge.{judged}
 use Rattle.wrapper.specs.Taken.{taken, stepped_by, stepped}
-use Rattle.wrapper.specs.declared.Arrived.{Arrived}
-use Rattle.joining.specs.declared.Decision.{Decision}
-use Rattle.table.specs.Table.{table_formed, record_at}
-use Rattle.asking.specs.Asking.{asked_of}
+use Rattle.table.specs.Table.{same, found, table_formed, record_at}
+use Rattle.table.proofs.Finding.{found_at_lem}
+use Rattle.table.proofs.Tables.{named_is}
+use Rattle.asking.specs.Asking.{wrapper_for, wrapper_asks, join_asks, asked_of}
 use Rattle.asking.specs.declared.Asked.{Asked}
 use Rattle.asking.specs.declared.Asked.TheVariants as asked
-use Rattle.asking.proofs.Steps.{asked_wrapper}
 use Rattle.member.specs.Sizes.{message_sizes}
-use Rattle.member.specs.Messages.{Outcome, refused_message, join_done, join_outcome, plan_outcome, stepped_outcome, wrapper_outcome, asked_outcome, message_outcome}
-use Rattle.demands.specs.Calls.{State, Right}
+use Rattle.member.specs.Messages.{Outcome, refused_message, join_outcome, plan_outcome, stepped_outcome, wrapper_outcome, asked_outcome, message_outcome}
+use Rattle.record.proofs.Choices.{either}
+use Rattle.demands.proofs.Lemmas.Asks as asks
+use Rattle.demands.proofs.Lemmas.Asks.{Asks}
+use Rattle.demands.proofs.Lemmas.OneStep.{brought}
 
--- a plan that is carried out: the wrapper w with contents c for the used record i
-pub record Carries (s : State) (i : ℕ) (w : Arrived) (c : List ℕ) : Type 0 where
-  pub within : i < 8
-  pub used : (record_at s.table i).used ≡ true
-  pub said : w.len ≡ length c
-  pub most : length c ≤ most_contents
+-- a plan that is carried out: the data d of vector v from s are a wrapper for the used record i, which passes step 1, and the contents fit a place
+pub record Carries (ts : List Record) (s : Cid) (v : ℕ) (d : List ℕ) (i : ℕ) : Type 0 where
+  pub within : i < length ts
+  pub used : (record_at ts i).used ≡ true
+  pub most : length (contents d) ≤ most_contents
+  pub fresh : stepped (record_at ts i) (brought v d) ≡ Ok (taken (record_at ts i) (brought v d))
 
-module _ (s : State) (right : Right s) (P : Outcome → Type 0) (refuses : (why : Refusal) → P (refused_message s.table s.held why))
-    (joins : (owner : Cid) (j : Join) (n : ℕ) (known free : Option ℕ) (d : Decision) → P (join_done s.table s.held owner j n known free d))
-    (plans : (i : ℕ) (w : Arrived) (c : List ℕ) → Carries s i w c → P (plan_outcome s.table s.held i w c (taken (record_at s.table i) w))) where
-  wrapper_case : (i : ℕ) (w : Arrived) (c : List ℕ) → Carries s i w c → P (wrapper_outcome s.table s.held i w c)
-  unfolding wrapper_outcome stepped
-  wrapper_case i w c carries = by (judged (record_at s.table i) w.reliably w.total w.reliable)
-    where
-      by : (j : Result (Unit {0}) Refusal) → P (stepped_outcome s.table s.held i w c (stepped_by j (record_at s.table i) w))
-      by (Err why) = refuses why
-      by (Ok tt) = plans i w c carries
+module _ (ts : List Record) (held : List ℕ) (deliver reply : ℕ) (sender ours : List ℕ) (v : ℕ) (d : List ℕ) (n : ℕ) where
+  abbrev s : Cid
+  s = cid_at sender 0
 
-  asked_case : (owner o : Cid) (v : ℕ) (d : List ℕ) (n : ℕ) (a : Result Asked Refusal) → asked_of s.table owner o v d ≡ a
-      → P (asked_outcome s.table s.held owner n (contents d) a)
-  unfolding join_outcome
-  asked_case owner o v d n (Err why) e = refuses why
-  asked_case owner o v d n (Ok (asked.Join j)) e = joins owner j n _ _ _
-  asked_case owner o v d n (Ok (asked.Wrapper i w)) e =
-      let step = asked_wrapper s.table owner o i w v d e in
-      wrapper_case i w (contents d)
-      (record {
-        within = subst (λ m. i < m) right.eight step.within;
-        used = step.used;
-        said = step.len;
-        most = subst (λ m. m ≤ most_contents) step.len step.fits;
-      })
+  -- what the call is lent has the right sizes
+  abbrev pub Sized : Type 0
+  Sized = message_sizes (length ts) (length held) deliver reply (length sender) (length ours) ≡ true
 
-  pub message_cases : (deliver reply : ℕ) (sender ours : List ℕ) (v : ℕ) (d : List ℕ) (n : ℕ)
-      → P (message_outcome s.table s.held deliver reply sender ours v d n)
-  unfolding message_outcome
-  message_cases deliver reply sender ours v d n =
-      by (not (message_sizes (length s.table) (length s.held) deliver reply (length sender) (length ours))) (not (table_formed s.table)) _
-      (asked_case (cid_at sender 0) (cid_at ours 0) v d n _ refl)
-    where
-      by : (a b : Bool) (out : Outcome) → P out
-          → P (cond a (refused_message s.table s.held refusal.WrongSize) (cond b (refused_message s.table s.held refusal.WrongTable) out))
-      by true b out p = refuses refusal.WrongSize
-      by false true out p = refuses refusal.WrongTable
-      by false false out p = p
+  module _ (P : Outcome → Type 0) (refuses : (why : Refusal) → P (refused_message ts held why))
+      (joins : P (join_outcome ts held s (join_of d) n))
+      (plans : Sized → (i : ℕ) → Carries ts s v d i
+      → P (plan_outcome ts held i (brought v d) (contents d) (taken (record_at ts i) (brought v d))))
+      where
+    wrapper_case : Sized → (f : Option ℕ) → found 0 s (wrapper_of d).channel ts ≡ f
+        → P (asked_outcome ts held s n (contents d) (wrapper_for f (eqb v reliable_wrapper) (wrapper_of d) (length (contents d))))
+    unfolding wrapper_outcome stepped
+    wrapper_case sized None e = refuses refusal.NoRecord
+    wrapper_case sized (Some i) e = long (ltb most_contents (length (contents d))) refl
+      where
+        by : length (contents d) ≤ most_contents → (j : Result (Unit {0}) Refusal)
+            → judged (record_at ts i) (brought v d).reliably (brought v d).total (brought v d).reliable ≡ j
+            → P (stepped_outcome ts held i (brought v d) (contents d) (stepped_by j (record_at ts i) (brought v d)))
+        by l (Err why) f = refuses why
+        by l (Ok passed) f =
+            let met = found_at_lem s (wrapper_of d).channel ts i e in
+            plans sized i
+            (record {
+              within = met.0;
+              used = (named_is s (wrapper_of d).channel (record_at ts i) met.1).0;
+              most = l;
+              fresh = rw f refl;
+            })
+
+        long : (b : Bool) → ltb most_contents (length (contents d)) ≡ b
+            → P (asked_outcome ts held s n (contents d) (cond b (Err refusal.ContentsOver) (Ok (asked.Wrapper i (brought v d)))))
+        long true l = refuses refusal.ContentsOver
+        long false l = by (ltb-false most_contents (length (contents d)) l) _ refl
+
+    asked_case : Sized → {a : Result Asked Refusal} → Asks ts s (cid_at ours 0) v d a → P (asked_outcome ts held s n (contents d) a)
+    unfolding join_asks wrapper_asks
+    asked_case sized (asks.refuses why) = refuses why
+    asked_case sized (asks.joins r e) =
+        either (λ (a : Result Asked Refusal). P (asked_outcome ts held s n (contents d) a)) (same (join_of d).cid (cid_at ours 0)) _ _ joins
+        (refuses refusal.NotForUs)
+    asked_case sized (asks.wraps r w) = wrapper_case sized (found 0 s (wrapper_of d).channel ts) refl
+
+    pub message_cases : P (message_outcome ts held deliver reply sender ours v d n)
+    unfolding message_outcome
+    message_cases = by (message_sizes (length ts) (length held) deliver reply (length sender) (length ours)) refl
+      where
+        by : (b : Bool) → message_sizes (length ts) (length held) deliver reply (length sender) (length ours) ≡ b
+            → P
+            (cond (not b) (refused_message ts held refusal.WrongSize)
+            (cond (not (table_formed ts)) (refused_message ts held refusal.WrongTable)
+            (asked_outcome ts held s n (contents d) (asked_of ts s (cid_at ours 0) v d))))
+        by false e = refuses refusal.WrongSize
+        by true e =
+            either P (not (table_formed ts)) _ _ (refuses refusal.WrongTable) (asked_case e (asks.asks ts s (cid_at ours 0) v d))
