@@ -22,7 +22,7 @@ use Rattle.refusal.specs.declared.Refusal.TheVariants as refusal
 use Rattle.record.specs.WellFormed.{most_contents}
 use Rattle.record.specs.declared.Record.{Record}
 use Rattle.record.specs.declared.reasons.Reason.TheVariants as reason
-use Rattle.wrapper.specs.Taken.{stepped}
+use Rattle.wrapper.specs.Taken.{taken, stepped}
 use Rattle.wrapper.specs.declared.Arrived.{Arrived}
 use Rattle.wrapper.specs.declared.Plan.{Plan}
 use Rattle.joining.specs.Joining.{legal, existing_of, decide_at, decided, new_record}
@@ -34,7 +34,7 @@ use Rattle.table.proofs.Tables.{named_is, set_there, set_here}
 use Rattle.sending.specs.Sent.{reply_of, join_reply_of}
 use Rattle.carry.specs.Carried.{Delivered, held_after, delivered_by}
 use Rattle.carry.specs.Fits.{Fits}
-use Rattle.carry.proofs.PlanFits.{stepped_fits}
+use Rattle.carry.proofs.PlanFits.{plan_fits, stepped_fits}
 use Rattle.asking.specs.Asking.{arrived_of, wrapper_for, wrapper_asks, join_asks, asked_of}
 use Rattle.asking.specs.declared.Asked.{Asked}
 use Rattle.asking.specs.declared.Asked.TheVariants as asked
@@ -46,7 +46,9 @@ use Rattle.demands.specs.Calls.{State, Answer, lent_as, message_came, table_step
 use Rattle.demands.specs.Refusals.{is_wrapper}
 use Rattle.demands.specs.Channel.{Channel, Told, refused, wrapped, joined, stays, planned, by_step, wrapper_on, join_on, one, names, is_cid, own, channel_at, view_at, slab}
 use Rattle.demands.proofs.Lemmas.Slabs.{slab_after, slab_other, slab_delivered}
-use Rattle.demands.proofs.Lemmas.Asks.{Asks, refuses, joins, wraps, asks, asks_wrapper, asks_join}
+use Rattle.demands.proofs.Lemmas.Asks.{asks_wrapper, asks_join}
+use Rattle.demands.proofs.Lemmas.OneStep.{brought}
+use Rattle.demands.proofs.Lemmas.Outcomes.{Carries, Sized, message_cases}
 use Rattle.demands.proofs.Lemmas.Owned.{sender_is, is_sender, Names, names_is, wrapper_names, message_sizes_lem, Has, it_has, meets}
 
 -- ---- choices
@@ -71,8 +73,8 @@ lent_back false held other = refl
 -- ---- the call
 
 -- an outcome that stands in the caller's memory as it is
-abbrev taken : Outcome → Came State Answer
-taken out = record { state = record { table = out.table; held = out.held }; answer = calls.message out }
+abbrev in_memory : Outcome → Came State Answer
+in_memory out = record { state = record { table = out.table; held = out.held }; answer = calls.message out }
 
 module _ (s : State) (right : Right s) (held deliver reply : ℕ) (sender ours : List ℕ) (v : ℕ) (d : List ℕ) (n : ℕ) where
   abbrev sizes : Bool
@@ -84,7 +86,7 @@ module _ (s : State) (right : Right s) (held deliver reply : ℕ) (sender ours :
 
   -- a right table refuses nothing but sizes before it looks at what is asked
   message_comes : table_step s (calls.message held deliver reply sender ours v d n)
-      ≡ cond sizes (taken outcome) (record { state = s; answer = calls.message (refused_message s.table (lent_as held s.held) refusal.WrongSize) })
+      ≡ cond sizes (in_memory outcome) (record { state = s; answer = calls.message (refused_message s.table (lent_as held s.held) refusal.WrongSize) })
   unfolding table_step message_outcome
   message_comes =
       ap (λ (b : Bool). came b) lengths ∙ by sizes refl
@@ -101,7 +103,7 @@ module _ (s : State) (right : Right s) (held deliver reply : ℕ) (sender ours :
           ap₂ (λ (a b : ℕ). message_sizes a b deliver reply (length sender) (length ours)) right.eight (lent_length held s.held)
 
       by : (b : Bool) → sizes ≡ b
-          → came b ≡ cond b (taken outcome) (record { state = s; answer = calls.message (refused_message s.table (lent_as held s.held) refusal.WrongSize) })
+          → came b ≡ cond b (in_memory outcome) (record { state = s; answer = calls.message (refused_message s.table (lent_as held s.held) refusal.WrongSize) })
       by true e =
           let q : held ≡ length s.held = (message_sizes_lem _ held deliver reply (length sender) (length ours) e).0 ∙ sym right.size in
           let t : eqb held (length s.held) ≡ true = eq-eqb held (length s.held) q in
@@ -129,7 +131,7 @@ module _ (i : ℕ) (owner : Cid) (channel : ℕ) (s : State) (right : Right s) (
 
   -- a plan of record i
   plan_own : (w : Arrived) (c : List ℕ) (p : Plan) → Fits p → length c ≤ most_contents
-      → view_at i (taken (plan_outcome s.table s.held i w c p)) ≡ planned (channel_at i s) w c p
+      → view_at i (in_memory (plan_outcome s.table s.held i w c p)) ≡ planned (channel_at i s) w c p
   unfolding view_at channel_at plan_outcome planned
   plan_own w c p fits most =
       ap (λ (r : Record). seen r (slab i (held_after i p.fate c s.held)) (delivered_by s.held i w c p))
@@ -147,19 +149,19 @@ module _ (i : ℕ) (owner : Cid) (channel : ℕ) (s : State) (right : Right s) (
           }
 
   step_own : (w : Arrived) (c : List ℕ) → w.len ≡ length c → length c ≤ most_contents
-      → view_at i (taken (wrapper_outcome s.table s.held i w c)) ≡ by_step (channel_at i s) w c (stepped (record_at s.table i) w)
+      → view_at i (in_memory (wrapper_outcome s.table s.held i w c)) ≡ by_step (channel_at i s) w c (stepped (record_at s.table i) w)
   unfolding wrapper_outcome view_at channel_at
   step_own w c said most = by (stepped (record_at s.table i) w) refl
     where
       by : (r : Result Plan Refusal) → stepped (record_at s.table i) w ≡ r
-          → view_at i (taken (stepped_outcome s.table s.held i w c r)) ≡ by_step (channel_at i s) w c r
+          → view_at i (in_memory (stepped_outcome s.table s.held i w c r)) ≡ by_step (channel_at i s) w c r
       by (Ok p) e =
           plan_own w c p (stepped_fits (record_at s.table i) w it.used (it.formed.each i) it.four (omega arith) p e) most
       by (Err why) e = refl
 
   wrapper_own : (v : ℕ) (d : List ℕ) (n : ℕ)
       → view_at i
-      (taken
+      (in_memory
       (asked_outcome s.table s.held owner n (contents d)
       (wrapper_for (Some i) (eqb v reliable_wrapper) (wrapper_of d) (length (contents d)))))
       ≡ wrapper_on (channel_at i s) v d
@@ -170,7 +172,7 @@ module _ (i : ℕ) (owner : Cid) (channel : ℕ) (s : State) (right : Right s) (
       w = arrived_of (eqb v reliable_wrapper) (wrapper_of d) (length (contents d))
 
       by : (b : Bool) → ltb most_contents (length (contents d)) ≡ b
-          → view_at i (taken (asked_outcome s.table s.held owner n (contents d) (cond b (Err refusal.ContentsOver) (Ok (asked.Wrapper i w)))))
+          → view_at i (in_memory (asked_outcome s.table s.held owner n (contents d) (cond b (Err refusal.ContentsOver) (Ok (asked.Wrapper i w)))))
           ≡ cond b (stays (channel_at i s) (refused refusal.ContentsOver)) (by_step (channel_at i s) w (contents d) (stepped (record_at s.table i) w))
       by true e = refl
       by false e = step_own w (contents d) refl (ltb-false most_contents (length (contents d)) e)
@@ -190,14 +192,14 @@ module _ (i : ℕ) (owner : Cid) (channel : ℕ) (s : State) (right : Right s) (
 
   -- a Join that is answered so leaves the channel and answers so
   join_done_lem : (o : Cid) (j : Join) (n : ℕ) (known : Option ℕ) (answer : Decision)
-      → view_at i (taken (join_done s.table s.held o j n known (lowest_free 0 s.table) answer))
+      → view_at i (in_memory (join_done s.table s.held o j n known (lowest_free 0 s.table) answer))
       ≡ stays (channel_at i s) (joined answer (join_reply_of o j n answer))
   unfolding view_at channel_at
   join_done_lem o j n known answer =
       ap (λ (r : Record). stays (record { at = r; held = slab i s.held }) (joined answer (join_reply_of o j n answer))) (join_leaves o j n answer)
 
   join_own : (ours : List ℕ) (j : Join) (n : ℕ) (c : List ℕ) → j.channel ≡ channel
-      → view_at i (taken (asked_outcome s.table s.held owner n c (join_asks (cid_at ours 0) j))) ≡ join_on (channel_at i s) owner ours j n
+      → view_at i (in_memory (asked_outcome s.table s.held owner n c (join_asks (cid_at ours 0) j))) ≡ join_on (channel_at i s) owner ours j n
   unfolding join_asks join_outcome join_on view_at channel_at
   join_own ours j n c ch = by (same j.cid (cid_at ours 0))
     where
@@ -213,23 +215,23 @@ module _ (i : ℕ) (owner : Cid) (channel : ℕ) (s : State) (right : Right s) (
           ∙ decided_known j (record_at s.table i) n (is_some (lowest_free 0 s.table))
 
       by : (b : Bool)
-          → view_at i (taken (asked_outcome s.table s.held owner n c (cond b (Ok (asked.Join j)) (Err refusal.NotForUs))))
+          → view_at i (in_memory (asked_outcome s.table s.held owner n c (cond b (Ok (asked.Join j)) (Err refusal.NotForUs))))
           ≡ cond b (stays (channel_at i s) (joined answer (join_reply_of owner j n answer))) (stays (channel_at i s) (refused refusal.NotForUs))
       by true =
           ap
           (λ (a : Decision).
-          view_at i (taken (join_done s.table s.held owner j n (found 0 owner j.channel s.table) (lowest_free 0 s.table) a)))
+          view_at i (in_memory (join_done s.table s.held owner j n (found 0 owner j.channel s.table) (lowest_free 0 s.table) a)))
           decides
           ∙ join_done_lem owner j n (found 0 owner j.channel s.table) answer
       by false = refl
 
   -- a message that names the channel and comes from its owner
   asked_own : (ours : List ℕ) (v : ℕ) (d : List ℕ) (n : ℕ) → Names channel v d
-      → view_at i (taken (asked_outcome s.table s.held owner n (contents d) (asked_of s.table owner (cid_at ours 0) v d)))
+      → view_at i (in_memory (asked_outcome s.table s.held owner n (contents d) (asked_of s.table owner (cid_at ours 0) v d)))
       ≡ cond (is_wrapper v) (wrapper_on (channel_at i s) v d) (join_on (channel_at i s) owner ours (join_of d) n)
   unfolding wrapper_asks
   asked_own ours v d n (readable, inl (w, c)) =
-      ap (λ (a : Result Asked Refusal). view_at i (taken (asked_outcome s.table s.held owner n (contents d) a)))
+      ap (λ (a : Result Asked Refusal). view_at i (in_memory (asked_outcome s.table s.held owner n (contents d) a)))
       (asks_wrapper s.table owner (cid_at ours 0) v d readable w
       ∙ ap (λ (f : Option ℕ). wrapper_for f (eqb v reliable_wrapper) (wrapper_of d) (length (contents d)))
       (ap (λ (k : ℕ). found 0 owner k s.table) c ∙ it.finds))
@@ -237,7 +239,7 @@ module _ (i : ℕ) (owner : Cid) (channel : ℕ) (s : State) (right : Right s) (
       ∙ sym (when (is_wrapper v) _ _ w)
   asked_own ours v d n (readable, inr (e, c)) =
       let q : v ≡ join = eqb-true v join e in
-      ap (λ (a : Result Asked Refusal). view_at i (taken (asked_outcome s.table s.held owner n (contents d) a)))
+      ap (λ (a : Result Asked Refusal). view_at i (in_memory (asked_outcome s.table s.held owner n (contents d) a)))
       (asks_join s.table owner (cid_at ours 0) v d readable e)
       ∙ join_own ours (join_of d) n (contents d) c
       ∙ sym (ap (λ (u : ℕ). cond (is_wrapper u) (wrapper_on (channel_at i s) v d) (join_on (channel_at i s) owner ours (join_of d) n)) q)
@@ -256,127 +258,56 @@ module _ (i : ℕ) (owner : Cid) (channel : ℕ) (s : State) (right : Right s) (
 
         by : (b : Bool)
             → view_at i
-            (cond b (taken (asked_outcome s.table s.held (cid_at sender 0) n (contents d) (asked_of s.table (cid_at sender 0) (cid_at ours 0) v d)))
+            (cond b (in_memory (asked_outcome s.table s.held (cid_at sender 0) n (contents d) (asked_of s.table (cid_at sender 0) (cid_at ours 0) v d)))
             (record { state = s; answer = calls.message (refused_message s.table (lent_as held s.held) refusal.WrongSize) }))
             ≡ cond b (cond (is_wrapper v) (wrapper_on (channel_at i s) v d) (join_on (channel_at i s) owner ours (join_of d) n))
             (stays (channel_at i s) (refused refusal.WrongSize))
         by true =
-            ap (λ (o : Cid). view_at i (taken (asked_outcome s.table s.held o n (contents d) (asked_of s.table o (cid_at ours 0) v d))))
+            ap (λ (o : Cid). view_at i (in_memory (asked_outcome s.table s.held o n (contents d) (asked_of s.table o (cid_at ours 0) v d))))
             (sender_is owner sender mine.0)
             ∙ asked_own ours v d n (names_is channel v d mine.1)
         by false = refl
 
     -- ---- any other message
 
-    -- a plan of another record
-    plan_other : (k : ℕ) (w : Arrived) (c : List ℕ) (p : Plan) → k < 8 → i ≢ k → Fits p → length c ≤ most_contents
-        → channel_at i (taken (plan_outcome s.table s.held k w c p)).state ≡ channel_at i s
-    unfolding channel_at plan_outcome
-    plan_other k w c p hk z fits most =
-        ap₂ (λ (r : Record) (h : List ℕ). record { at = r; held = h })
-        (set_there s.table k p.after i (λ e. z (sym e)))
-        (slab_other k p.fate c s.held hk fits.place most right.size i z)
+    -- whatever is answered, the channel stands where the call is not its own
+    abbrev Stands : Outcome → Type 0
+    Stands out = channel_at i (message_came s held out).state ≡ channel_at i s
 
-    module _ (sized : length sender ≡ cid_size) (other : own owner channel (calls.message held deliver reply sender ours v d n) ≡ false) where
-      -- a wrapper that meets record i is the channel's own
-      not_met : readable v d ≡ true → is_wrapper v ≡ true → found 0 (cid_at sender 0) (wrapper_of d).channel s.table ≢ Some i
-      unfolding own
-      not_met r w f =
-          let m = meets i owner channel s right has (cid_at sender 0) (wrapper_of d).channel f in
-          false≢true
-          (sym other
-          ∙ (and-eq-true_iff (is_cid owner sender) (names channel v d)).1
-          (is_sender owner sender sized m.0, wrapper_names channel v d r w m.1))
-
-      -- a wrapper that meets record k
-      step_other : (k : ℕ) (w : Arrived) → found 0 (cid_at sender 0) (wrapper_of d).channel s.table ≡ Some k → i ≢ k
-          → w.len ≡ length (contents d) → length (contents d) ≤ most_contents
-          → channel_at i (taken (wrapper_outcome s.table s.held k w (contents d))).state ≡ channel_at i s
-      unfolding wrapper_outcome
-      step_other k w f z said most = by (stepped (record_at s.table k) w) refl
-        where
-          by : (r : Result Plan Refusal) → stepped (record_at s.table k) w ≡ r
-              → channel_at i (taken (stepped_outcome s.table s.held k w (contents d) r)).state ≡ channel_at i s
-          by (Ok p) e =
-              let met = found_at_lem (cid_at sender 0) (wrapper_of d).channel s.table k f in
-              let below : k < 8 = omega (arith, met.0, right.eight) in
-              plan_other k w (contents d) p below z
-              (stepped_fits (record_at s.table k) w
-              (named_is (cid_at sender 0) (wrapper_of d).channel (record_at s.table k) met.1).0
-              (it.formed.each k)
-              (right.sound k below).four
-              (omega arith)
-              p e)
-              most
-          by (Err why) e = refl
-
-      wrapper_other : readable v d ≡ true → is_wrapper v ≡ true
-          → channel_at i
-          (taken
-          (asked_outcome s.table s.held (cid_at sender 0) n (contents d)
-          (wrapper_asks s.table (cid_at sender 0) (eqb v reliable_wrapper) (wrapper_of d) (length (contents d))))
-          ).state
-          ≡ channel_at i s
-      unfolding wrapper_asks
-      wrapper_other r u =
-          by (found 0 (cid_at sender 0) (wrapper_of d).channel s.table) refl (ltb most_contents (length (contents d))) refl
-        where
-          w : Arrived
-          w = arrived_of (eqb v reliable_wrapper) (wrapper_of d) (length (contents d))
-
-          on : (k : ℕ) → found 0 (cid_at sender 0) (wrapper_of d).channel s.table ≡ Some k
-              → (b : Bool) → ltb most_contents (length (contents d)) ≡ b
-              → channel_at i
-              (taken (asked_outcome s.table s.held (cid_at sender 0) n (contents d) (cond b (Err refusal.ContentsOver) (Ok (asked.Wrapper k w))))).state
-              ≡ channel_at i s
-          on k f true e = refl
-          on k f false e =
-              step_other k w f (λ q. not_met r u (f ∙ ap Some (sym q))) refl (ltb-false most_contents (length (contents d)) e)
-
-          by : (f : Option ℕ) → found 0 (cid_at sender 0) (wrapper_of d).channel s.table ≡ f → (b : Bool) → ltb most_contents (length (contents d)) ≡ b
-              → channel_at i
-              (taken
-              (asked_outcome s.table s.held (cid_at sender 0) n (contents d)
-              (wrapper_for f (eqb v reliable_wrapper) (wrapper_of d) (length (contents d))))
-              ).state
-              ≡ channel_at i s
-          by None f b e = refl
-          by (Some k) f b e = on k f (ltb most_contents (length (contents d))) refl
-
-      join_other : (j : Join)
-          → channel_at i (taken (asked_outcome s.table s.held (cid_at sender 0) n (contents d) (join_asks (cid_at ours 0) j))).state
-          ≡ channel_at i s
-      unfolding join_asks join_outcome channel_at
-      join_other j = by (same j.cid (cid_at ours 0))
-        where
-          by : (b : Bool)
-              → channel_at i (taken (asked_outcome s.table s.held (cid_at sender 0) n (contents d) (cond b (Ok (asked.Join j)) (Err refusal.NotForUs)))).state
-              ≡ channel_at i s
-          by true =
-              ap (λ (r : Record). record { at = r; held = slab i s.held })
-              (join_leaves (cid_at sender 0) j n
-              (decided j (existing_at s.table (found 0 (cid_at sender 0) j.channel s.table)) n (is_some (lowest_free 0 s.table))))
-          by false = refl
-
-      asked_other : (a : Result Asked Refusal) → Asks s.table (cid_at sender 0) (cid_at ours 0) v d a
-          → channel_at i (taken (asked_outcome s.table s.held (cid_at sender 0) n (contents d) a)).state ≡ channel_at i s
-      asked_other a (refuses why) = refl
-      asked_other a (joins r e) = join_other (join_of d)
-      asked_other a (wraps r w) = wrapper_other r w
+    -- a refusal and the answer to a Join leave the octets that are held
+    same_held : cond (eqb held (length s.held)) (lent_as held s.held) s.held ≡ s.held
+    same_held = lent_back (eqb held (length s.held)) s.held (replicate held 0)
 
     pub message_other : own owner channel (calls.message held deliver reply sender ours v d n) ≡ false
         → channel_at i (table_step s (calls.message held deliver reply sender ours v d n)).state ≡ channel_at i s
+    unfolding own table_step channel_at join_outcome plan_outcome
     message_other other =
-        ap (λ (m : Came State Answer). channel_at i m.state) (message_comes s right held deliver reply sender ours v d n)
-        ∙ by (message_sizes table_size held deliver reply (length sender) (length ours)) refl
+        message_cases s.table (lent_as held s.held) deliver reply sender ours v d n Stands
+        (λ why. ap (λ (h : List ℕ). record { at = record_at s.table i; held = slab i h }) same_held)
+        (ap₂ (λ (r : Record) (h : List ℕ). record { at = r; held = slab i h }) (join_leaves (cid_at sender 0) (join_of d) n _) same_held)
+        plan_other
       where
-        by : (b : Bool) → message_sizes table_size held deliver reply (length sender) (length ours) ≡ b
-            → channel_at i
-            (cond b (taken (asked_outcome s.table s.held (cid_at sender 0) n (contents d) (asked_of s.table (cid_at sender 0) (cid_at ours 0) v d)))
-            (record { state = s; answer = calls.message (refused_message s.table (lent_as held s.held) refusal.WrongSize) })
-            ).state
-            ≡ channel_at i s
-        by true e =
-            asked_other (message_sizes_lem _ held deliver reply (length sender) (length ours) e).1 other _
-            (asks s.table (cid_at sender 0) (cid_at ours 0) v d)
-        by false e = refl
+        -- a wrapper that meets record i is the channel's own
+        not_met : length sender ≡ cid_size → (k : ℕ) → Carries s.table (cid_at sender 0) v d k → i ≢ k
+        not_met sized k c q =
+            let m = meets i owner channel s right has (cid_at sender 0) (wrapper_of d).channel (c.finds ∙ ap Some (sym q)) in
+            false≢true
+            (sym other
+            ∙ (and-eq-true_iff (is_cid owner sender) (names channel v d)).1
+            (is_sender owner sender sized m.0, wrapper_names channel v d c.readable c.wrapper m.1))
+
+        -- so a plan is another record's
+        plan_other : Sized s.table (lent_as held s.held) deliver reply sender ours v d n → (k : ℕ) → Carries s.table (cid_at sender 0) v d k
+            → Stands (plan_outcome s.table (lent_as held s.held) k (brought v d) (contents d) (taken (record_at s.table k) (brought v d)))
+        plan_other sized k c =
+            let sizes = message_sizes_lem _ _ deliver reply _ _ sized in
+            let lent : eqb held (length s.held) ≡ true =
+            eq-eqb held (length s.held) (sym (lent_length held s.held) ∙ sizes.0 ∙ sym right.size) in
+            let below : k < 8 = omega (arith, c.within, right.eight) in
+            let fits =
+            plan_fits (record_at s.table k) (brought v d) c.used (it.formed.each k) (right.sound k below).four c.most in
+            let z = not_met sizes.1 k c in
+            rw lent
+            (ap₂ (λ (r : Record) (h : List ℕ). record { at = r; held = h })
+            (set_there s.table k _ i (λ e. z (sym e)))
+            (slab_other k (taken (record_at s.table k) (brought v d)).fate (contents d) s.held below fits.place c.most right.size i z))

@@ -11,7 +11,7 @@ use borrow.Author.Tests.{ltb-false}
 use Rattle.std.specs.Prelude.{Option, Some, None, Result, Ok, Err}
 use Rattle.message.specs.Lengths.{reliable_wrapper}
 use Rattle.message.specs.Layouts.{cid_at, wrapper_of, join_of}
-use Rattle.message.specs.Reading.{contents}
+use Rattle.message.specs.Reading.{readable, contents}
 use Rattle.message.specs.declared.Cid.{Cid}
 use Rattle.refusal.specs.declared.Refusal.{Refusal}
 use Rattle.refusal.specs.declared.Refusal.TheVariants as refusal
@@ -28,12 +28,16 @@ use Rattle.asking.specs.declared.Asked.TheVariants as asked
 use Rattle.member.specs.Sizes.{message_sizes}
 use Rattle.member.specs.Messages.{Outcome, refused_message, join_outcome, plan_outcome, stepped_outcome, wrapper_outcome, asked_outcome, message_outcome}
 use Rattle.record.proofs.Choices.{either}
+use Rattle.demands.specs.Refusals.{is_wrapper}
 use Rattle.demands.proofs.Lemmas.Asks as asks
 use Rattle.demands.proofs.Lemmas.Asks.{Asks}
 use Rattle.demands.proofs.Lemmas.OneStep.{brought}
 
 -- a plan that is carried out: the data d of vector v from s are a wrapper for the used record i, which passes step 1, and the contents fit a place
 pub record Carries (ts : List Record) (s : Cid) (v : ℕ) (d : List ℕ) (i : ℕ) : Type 0 where
+  pub readable : readable v d ≡ true
+  pub wrapper : is_wrapper v ≡ true
+  pub finds : found 0 s (wrapper_of d).channel ts ≡ Some i
   pub within : i < length ts
   pub used : (record_at ts i).used ≡ true
   pub most : length (contents d) ≤ most_contents
@@ -52,11 +56,11 @@ module _ (ts : List Record) (held : List ℕ) (deliver reply : ℕ) (sender ours
       (plans : Sized → (i : ℕ) → Carries ts s v d i
       → P (plan_outcome ts held i (brought v d) (contents d) (taken (record_at ts i) (brought v d))))
       where
-    wrapper_case : Sized → (f : Option ℕ) → found 0 s (wrapper_of d).channel ts ≡ f
+    wrapper_case : Sized → readable v d ≡ true → is_wrapper v ≡ true → (f : Option ℕ) → found 0 s (wrapper_of d).channel ts ≡ f
         → P (asked_outcome ts held s n (contents d) (wrapper_for f (eqb v reliable_wrapper) (wrapper_of d) (length (contents d))))
     unfolding wrapper_outcome stepped
-    wrapper_case sized None e = refuses refusal.NoRecord
-    wrapper_case sized (Some i) e = long (ltb most_contents (length (contents d))) refl
+    wrapper_case sized r w None e = refuses refusal.NoRecord
+    wrapper_case sized r w (Some i) e = long (ltb most_contents (length (contents d))) refl
       where
         by : length (contents d) ≤ most_contents → (j : Result (Unit {0}) Refusal)
             → judged (record_at ts i) (brought v d).reliably (brought v d).total (brought v d).reliable ≡ j
@@ -66,6 +70,9 @@ module _ (ts : List Record) (held : List ℕ) (deliver reply : ℕ) (sender ours
             let met = found_at_lem s (wrapper_of d).channel ts i e in
             plans sized i
             (record {
+              readable = r;
+              wrapper = w;
+              finds = e;
               within = met.0;
               used = (named_is s (wrapper_of d).channel (record_at ts i) met.1).0;
               most = l;
@@ -83,7 +90,7 @@ module _ (ts : List Record) (held : List ℕ) (deliver reply : ℕ) (sender ours
     asked_case sized (asks.joins r e) =
         either (λ (a : Result Asked Refusal). P (asked_outcome ts held s n (contents d) a)) (same (join_of d).cid (cid_at ours 0)) _ _ joins
         (refuses refusal.NotForUs)
-    asked_case sized (asks.wraps r w) = wrapper_case sized (found 0 s (wrapper_of d).channel ts) refl
+    asked_case sized (asks.wraps r w) = wrapper_case sized r w (found 0 s (wrapper_of d).channel ts) refl
 
     pub message_cases : P (message_outcome ts held deliver reply sender ours v d n)
     unfolding message_outcome
