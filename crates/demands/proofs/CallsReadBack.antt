@@ -6,46 +6,35 @@ use Prim.Native.Nat.{ℕ, ◌<◌}
 use mathlib.Core.Bool.{Bool, true, false, cond, not}
 use mathlib.Core.List.{List, [], ◌∷◌}
 use mathlib.Core.Path.{◌≡◌, refl, sym, subst}
-use lib.Dec.{ltb, eqb, lit<}
+use lib.Dec.{ltb, lit<}
 use lib.ListN.{length, replicate, get_or-map}
-use borrow.Author.Tests.{eqb-true}
-use Rattle.std.specs.Prelude.{Option, Some, None, is_some, Result, Ok, Err}
+use Rattle.std.specs.Prelude.{Option, Some, None, is_some}
 use Rattle.octets.specs.Octets.{number, Octets as Bytes}
-use Rattle.message.specs.Lengths.{reliable_wrapper}
-use Rattle.message.specs.Layouts.{cid_at, wrapper_of, join_of, reliable}
-use Rattle.message.specs.Reading.{contents}
+use Rattle.message.specs.Layouts.{cid_at, join_of, reliable}
 use Rattle.message.specs.declared.Cid.{Cid}
 use Rattle.message.specs.declared.Join.{Join}
-use Rattle.message.specs.declared.Wrapper.{Wrapper}
 use Rattle.refusal.specs.declared.Refusal.{Refusal}
 use Rattle.refusal.specs.declared.Refusal.TheVariants as refusal
 use Rattle.record.specs.Reasons.{leaving_reason}
-use Rattle.record.specs.WellFormed.{most_contents}
 use Rattle.record.specs.declared.Record.{Record}
 use Rattle.gap.specs.Elapsed.{gives, elapsed_of, phased, in_standoff}
 use Rattle.gap.specs.declared.Elapsed.{Elapsed}
 use Rattle.gap.specs.declared.Event.TheVariants as event
 use Rattle.gap.specs.Range.{nearer, nearest, nak_first, nak_last}
 use Rattle.gap.specs.declared.Event.{Event}
-use Rattle.wrapper.specs.Taken.{stepped}
-use Rattle.wrapper.specs.declared.Arrived.{Arrived}
-use Rattle.wrapper.specs.declared.Plan.{Plan}
 use Rattle.joining.specs.Replies.{departure, missing}
 use Rattle.table.specs.Table.{same, found, lowest_free, table_formed, blank, record_at, named}
 use Rattle.table.proofs.Finding.{found_at_lem}
 use Rattle.writing.specs.Fits.{Octets}
-use Rattle.sending.specs.Sent.{reply_of, event_of}
-use Rattle.carry.proofs.PlanFits.{stepped_taken}
+use Rattle.sending.specs.Sent.{event_of}
 use Rattle.carry.proofs.DeliveredLength.{each_at}
-use Rattle.asking.specs.Asking.{arrived_of, wrapper_for, wrapper_asks, join_asks}
-use Rattle.asking.specs.declared.Asked.{Asked}
-use Rattle.member.specs.Sizes.{deliver_size, reply_size, message_sizes, elapsed_sizes, leave_sizes, cells_size}
-use Rattle.member.specs.Messages.{Outcome, refused_message, existing_at, join_outcome, plan_outcome, stepped_outcome, wrapper_outcome, asked_outcome, message_outcome}
+use Rattle.member.specs.Sizes.{deliver_size, reply_size, elapsed_sizes, leave_sizes, cells_size}
+use Rattle.member.specs.Messages.{existing_at, join_outcome, plan_outcome, message_outcome}
 use Rattle.member.specs.Elapsing.{longest, Passing, refused_elapsed, passing, elapsed_outcome, sent_by}
 use Rattle.member.specs.Leaving.{Departing, refused_leave, departing, leave_for, leave_outcome}
 use Rattle.demands.specs.Calls.{Sound}
 use Rattle.demands.specs.Channel.{entry_at}
-use Rattle.demands.specs.ReadBack.{ReadFrom, reply_means, event_means, given_means, leave_means, FitTerms, FitAsked, FitExisting, Wide}
+use Rattle.demands.specs.ReadBack.{ReadFrom, event_means, given_means, leave_means, FitTerms, FitExisting, Wide}
 use Rattle.demands.proofs.Lemmas.OneStep.{brought}
 use Rattle.demands.proofs.Lemmas.Outcomes.{message_cases}
 use Rattle.record.proofs.Choices.{either}

@@ -8,33 +8,29 @@
 -- What does not follow: a total may be met again after two steps of almost half a turn and a short third one, since a total is only compared with
 -- the one before it.
 use Prim.Native.Nat.{ℕ, zero, suc, ◌+◌, ◌%◌, ◌<◌, ◌≤◌}
-use mathlib.Core.Bool.{Bool, true, false, cond, not}
+use mathlib.Core.Bool.{Bool, true, false, cond}
 use mathlib.Core.List.{List, [], ◌∷◌, ◌++◌, map}
 use mathlib.Core.Logic.{◌⊎◌, inl, inr, ◌≢◌}
 use mathlib.Core.Path.{◌≡◌, refl, sym, ap, ap₂, subst, ◌∙◌}
 use native.Mathlib.Omega.{arith}
-use lib.Dec.{ltb, eqb, lit≤, lit<}
+use lib.Dec.{lit≤, lit<}
 use lib.IntN.{pos}
 use lib.ListN.{length, get_or, take, set, replicate}
-use Rattle.std.specs.Prelude.{Option, Some, None, is_some, Result, Ok, Err}
+use Rattle.std.specs.Prelude.{Option, Some, None, Ok}
 use Rattle.octets.specs.Octets.{number}
 use Rattle.counter.specs.Distance.{turn, ahead, distance}
 use Rattle.counter.specs.Steps.{next}
 use Rattle.counter.proofs.Distances.{ahead_turn, ahead_is, distance_zero}
 use Rattle.counter.specs.declared.Total.{Total}
 use Rattle.counter.specs.declared.Reliable.{Reliable}
-use Rattle.message.specs.Lengths.{reliable_wrapper, look, length_of}
+use Rattle.message.specs.Lengths.{look, length_of}
 use Rattle.message.specs.Layouts.{total, reliable, cid_at, wrapper_of, parameters_at, address_of, join_of}
 use Rattle.message.specs.Reading.{readable_join, readable, message_of, read_message, contents}
 use Rattle.message.specs.declared.Cid.{Cid}
 use Rattle.message.specs.declared.Join.{Join}
 use Rattle.message.specs.declared.Parameters.{Parameters}
-use Rattle.message.specs.declared.Wrapper.{Wrapper}
-use Rattle.refusal.specs.declared.Refusal.{Refusal}
-use Rattle.refusal.specs.declared.Refusal.TheVariants as refusal
 use Rattle.record.specs.Legal.{legal_names, legal_parameters}
 use Rattle.record.specs.Profile.{min_expiry}
-use Rattle.record.specs.WellFormed.{most_contents}
 use Rattle.record.specs.declared.Place.{Place}
 use Rattle.record.specs.declared.Record.{Record}
 use Rattle.gap.specs.Elapsed.{elapsed_of}
@@ -43,26 +39,24 @@ use Rattle.gap.proofs.Moves.{Move, stands, expires, lost, goes_on, moves}
 use Rattle.wrapper.specs.Judge.{heard}
 use Rattle.wrapper.specs.Hold.{placed}
 use Rattle.record.specs.Places.{no_place}
-use Rattle.wrapper.specs.Taken.{taken, stepped}
+use Rattle.wrapper.specs.Taken.{taken}
 use Rattle.wrapper.specs.declared.Arrived.{Arrived}
 use Rattle.wrapper.specs.declared.Fate.{Fate}
 use Rattle.wrapper.specs.declared.Fate.TheVariants as fate
 use Rattle.wrapper.specs.InTurn as turns
 use Rattle.wrapper.proofs.InTurn.{in_turn}
 use Rattle.wrapper.specs.Since.{Freed}
-use Rattle.wrapper.specs.declared.Plan.{Plan}
 use Rattle.joining.specs.Joining.{legal_block, legal, decide_new, decided, new_record}
 use Rattle.joining.specs.declared.Decision.{Decision}
 use Rattle.joining.specs.declared.Decision.TheVariants as decision
-use Rattle.table.specs.Table.{same, named, found, lowest_free, table_formed, record_at}
+use Rattle.table.specs.Table.{same, named, found, lowest_free, record_at}
 use Rattle.table.proofs.Finding.{found_at_lem, free_at}
 use Rattle.table.proofs.Tables as tables
 use Rattle.carry.specs.Carried.{Delivered, held_after, at_once, from_place, from_places, delivered_by}
 use Rattle.carry.proofs.PlanFits.{taking}
-use Rattle.asking.specs.Asking.{arrived_of, wrapper_for, wrapper_asks, join_asks, asked_of}
-use Rattle.asking.specs.declared.Asked.{Asked}
+use Rattle.asking.specs.Asking.{join_asks, asked_of}
 use Rattle.member.specs.Sizes.{table_size, held_size, deliver_size, reply_size, message_sizes}
-use Rattle.member.specs.Messages.{Outcome, refused_message, existing_at, join_done, join_outcome, plan_outcome, stepped_outcome, wrapper_outcome, asked_outcome, message_outcome}
+use Rattle.member.specs.Messages.{Outcome, join_done, join_outcome, plan_outcome, message_outcome}
 use Rattle.member.specs.declared.Given.TheVariants as given
 use Rattle.demands.specs.Runs.{Came, run, own_of, shown, Each, none, more}
 use Rattle.demands.specs.Calls as calls
@@ -72,7 +66,7 @@ use Rattle.demands.specs.Order.{delivered_in, delivered_all, InTurn, reliable_nu
 use Rattle.demands.proofs.Lemmas.Running.{own_each, along}
 use Rattle.demands.proofs.Lemmas.Outcomes.{message_cases}
 use Rattle.demands.proofs.Lemmas.OneStep.{refuses, joins, brought, Does, answers, wraps, passes, leaves, does}
-use Rattle.record.proofs.Choices.{either, never}
+use Rattle.record.proofs.Choices.{never}
 use Rattle.demands.proofs.Lemmas.OneMessage.{lent_length}
 use Rattle.demands.proofs.Lemmas.Brought.{wrapper_says}
 use Rattle.demands.proofs.TableStays.{table_stays}

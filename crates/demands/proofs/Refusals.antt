@@ -35,7 +35,6 @@ use Rattle.wrapper.specs.declared.Arrived.{Arrived}
 use Rattle.carry.specs.Carried.{deliver_from}
 use Rattle.table.specs.Table.{same, found, table_formed, record_at}
 use Rattle.asking.specs.Asking.{arrived_of, wrapper_for, wrapper_asks, join_asks, message_asks, read_asks, asked_of}
-use Rattle.asking.specs.declared.Asked.TheVariants as asked
 use Rattle.member.specs.Sizes.{message_sizes, elapsed_sizes, leave_sizes}
 use Rattle.member.specs.Messages.{Outcome, refused_message, join_outcome, plan_outcome, stepped_outcome, wrapper_outcome, asked_outcome, message_outcome, number_of, message_end}
 use Rattle.member.specs.Elapsing.{longest, Passing, refused_elapsed, passing, elapsed_outcome, passed_table, elapsed_end}

@@ -1,14 +1,13 @@
 -- Every call takes a well-formed table to a well-formed table (`table_stays`), and eight free records are well formed (`free_table_right`). It
 -- assumes of the machine that its counters have 32 bits and that the data of messages are octets (`Sound`, `Lawful`).
-use Prim.Native.Nat.{ℕ, zero, suc, ◌<◌, ◌≤◌}
-use mathlib.Core.Bool.{Bool, true, false, cond, not, ◌&&◌}
+use Prim.Native.Nat.{ℕ, zero, suc, ◌<◌}
+use mathlib.Core.Bool.{Bool, true, false, cond, not}
 use mathlib.Core.List.{List, [], ◌∷◌, map}
 use mathlib.Core.Logic.{inl, inr}
 use mathlib.Core.Path.{◌≡◌, refl, sym, ◌∙◌}
 use native.Mathlib.Omega.{arith}
 use lib.Dec.{lit<, ltb, eqb}
 use lib.ListN.{length, set, replicate, length-set, length-map, get_or-replicate}
-use borrow.Author.Tests.{eqb-true}
 use Rattle.std.specs.Prelude.{Option, Some, None, is_some}
 use Rattle.octets.specs.Octets.{Octets}
 use Rattle.message.specs.Layouts.{cid_at, join_of}
@@ -39,7 +38,7 @@ use Rattle.table.proofs.Finding.{found_at_lem, found_nowhere, free_at}
 use Rattle.table.proofs.Tables.{TableFormed, formed, well_formed_lem, free_table_formed, named_is, is_named_lem, Stands, set_at, free_set_formed, same_set_formed, new_set_formed}
 use Rattle.carry.proofs.OwnPlaces.{held_length}
 use Rattle.carry.proofs.PlanFits.{plan_fits}
-use Rattle.member.specs.Sizes.{table_size, held_size, message_sizes, elapsed_sizes, leave_sizes}
+use Rattle.member.specs.Sizes.{table_size, held_size, elapsed_sizes, leave_sizes}
 use Rattle.member.specs.Messages.{Outcome, existing_at, table_after, join_outcome, plan_outcome, message_outcome}
 use Rattle.member.specs.Elapsing.{longest, Passing, elapsed_outcome, passed_table}
 use Rattle.member.specs.Leaving.{Departing, leave_for, departing, leave_outcome}

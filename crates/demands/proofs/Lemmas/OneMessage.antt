@@ -29,8 +29,8 @@ use Rattle.joining.specs.Joining.{legal, existing_of, decide_at, decided, new_re
 use Rattle.joining.specs.declared.Decision.{Decision}
 use Rattle.joining.specs.declared.Decision.TheVariants as decision
 use Rattle.table.specs.Table.{same, named, found, lowest_free, table_formed, record_at}
-use Rattle.table.proofs.Finding.{found_at_lem, free_at}
-use Rattle.table.proofs.Tables.{named_is, set_there, set_here}
+use Rattle.table.proofs.Finding.{free_at}
+use Rattle.table.proofs.Tables.{set_there, set_here}
 use Rattle.sending.specs.Sent.{reply_of, join_reply_of}
 use Rattle.carry.specs.Carried.{Delivered, held_after, delivered_by}
 use Rattle.carry.specs.Fits.{Fits}

@@ -55,52 +55,52 @@ module _ (ts : List Record) (held : List ℕ) (deliver reply : ℕ) (sender ours
       (joins : P (join_outcome ts held s (join_of d) n))
       (plans : Sized → (i : ℕ) → Carries ts s v d i
       → P (plan_outcome ts held i (brought v d) (contents d) (taken (record_at ts i) (brought v d))))
-      where
-    wrapper_case : Sized → readable v d ≡ true → is_wrapper v ≡ true → (f : Option ℕ) → found 0 s (wrapper_of d).channel ts ≡ f
-        → P (asked_outcome ts held s n (contents d) (wrapper_for f (eqb v reliable_wrapper) (wrapper_of d) (length (contents d))))
-    unfolding wrapper_outcome stepped
-    wrapper_case sized r w None e = refuses refusal.NoRecord
-    wrapper_case sized r w (Some i) e = long (ltb most_contents (length (contents d))) refl
-      where
-        by : length (contents d) ≤ most_contents → (j : Result (Unit {0}) Refusal)
-            → judged (record_at ts i) (brought v d).reliably (brought v d).total (brought v d).reliable ≡ j
-            → P (stepped_outcome ts held i (brought v d) (contents d) (stepped_by j (record_at ts i) (brought v d)))
-        by l (Err why) f = refuses why
-        by l (Ok passed) f =
-            let met = found_at_lem s (wrapper_of d).channel ts i e in
-            plans sized i
-            (record {
-              readable = r;
-              wrapper = w;
-              finds = e;
-              within = met.0;
-              used = (named_is s (wrapper_of d).channel (record_at ts i) met.1).0;
-              most = l;
-              fresh = rw f refl;
-            })
+    where
+      wrapper_case : Sized → readable v d ≡ true → is_wrapper v ≡ true → (f : Option ℕ) → found 0 s (wrapper_of d).channel ts ≡ f
+          → P (asked_outcome ts held s n (contents d) (wrapper_for f (eqb v reliable_wrapper) (wrapper_of d) (length (contents d))))
+      unfolding wrapper_outcome stepped
+      wrapper_case sized r w None e = refuses refusal.NoRecord
+      wrapper_case sized r w (Some i) e = long (ltb most_contents (length (contents d))) refl
+        where
+          by : length (contents d) ≤ most_contents → (j : Result (Unit {0}) Refusal)
+              → judged (record_at ts i) (brought v d).reliably (brought v d).total (brought v d).reliable ≡ j
+              → P (stepped_outcome ts held i (brought v d) (contents d) (stepped_by j (record_at ts i) (brought v d)))
+          by l (Err why) f = refuses why
+          by l (Ok passed) f =
+              let met = found_at_lem s (wrapper_of d).channel ts i e in
+              plans sized i
+              (record {
+                readable = r;
+                wrapper = w;
+                finds = e;
+                within = met.0;
+                used = (named_is s (wrapper_of d).channel (record_at ts i) met.1).0;
+                most = l;
+                fresh = rw f refl;
+              })
 
-        long : (b : Bool) → ltb most_contents (length (contents d)) ≡ b
-            → P (asked_outcome ts held s n (contents d) (cond b (Err refusal.ContentsOver) (Ok (asked.Wrapper i (brought v d)))))
-        long true l = refuses refusal.ContentsOver
-        long false l = by (ltb-false most_contents (length (contents d)) l) _ refl
+          long : (b : Bool) → ltb most_contents (length (contents d)) ≡ b
+              → P (asked_outcome ts held s n (contents d) (cond b (Err refusal.ContentsOver) (Ok (asked.Wrapper i (brought v d)))))
+          long true l = refuses refusal.ContentsOver
+          long false l = by (ltb-false most_contents (length (contents d)) l) _ refl
 
-    asked_case : Sized → {a : Result Asked Refusal} → Asks ts s (cid_at ours 0) v d a → P (asked_outcome ts held s n (contents d) a)
-    unfolding join_asks wrapper_asks
-    asked_case sized (asks.refuses why) = refuses why
-    asked_case sized (asks.joins r e) =
-        either (λ (a : Result Asked Refusal). P (asked_outcome ts held s n (contents d) a)) (same (join_of d).cid (cid_at ours 0)) _ _ joins
-        (refuses refusal.NotForUs)
-    asked_case sized (asks.wraps r w) = wrapper_case sized r w (found 0 s (wrapper_of d).channel ts) refl
+      asked_case : Sized → {a : Result Asked Refusal} → Asks ts s (cid_at ours 0) v d a → P (asked_outcome ts held s n (contents d) a)
+      unfolding join_asks wrapper_asks
+      asked_case sized (asks.refuses why) = refuses why
+      asked_case sized (asks.joins r e) =
+          either (λ (a : Result Asked Refusal). P (asked_outcome ts held s n (contents d) a)) (same (join_of d).cid (cid_at ours 0)) _ _ joins
+          (refuses refusal.NotForUs)
+      asked_case sized (asks.wraps r w) = wrapper_case sized r w (found 0 s (wrapper_of d).channel ts) refl
 
-    pub message_cases : P (message_outcome ts held deliver reply sender ours v d n)
-    unfolding message_outcome
-    message_cases = by (message_sizes (length ts) (length held) deliver reply (length sender) (length ours)) refl
-      where
-        by : (b : Bool) → message_sizes (length ts) (length held) deliver reply (length sender) (length ours) ≡ b
-            → P
-            (cond (not b) (refused_message ts held refusal.WrongSize)
-            (cond (not (table_formed ts)) (refused_message ts held refusal.WrongTable)
-            (asked_outcome ts held s n (contents d) (asked_of ts s (cid_at ours 0) v d))))
-        by false e = refuses refusal.WrongSize
-        by true e =
-            either P (not (table_formed ts)) _ _ (refuses refusal.WrongTable) (asked_case e (asks.asks ts s (cid_at ours 0) v d))
+      pub message_cases : P (message_outcome ts held deliver reply sender ours v d n)
+      unfolding message_outcome
+      message_cases = by (message_sizes (length ts) (length held) deliver reply (length sender) (length ours)) refl
+        where
+          by : (b : Bool) → message_sizes (length ts) (length held) deliver reply (length sender) (length ours) ≡ b
+              → P
+              (cond (not b) (refused_message ts held refusal.WrongSize)
+              (cond (not (table_formed ts)) (refused_message ts held refusal.WrongTable)
+              (asked_outcome ts held s n (contents d) (asked_of ts s (cid_at ours 0) v d))))
+          by false e = refuses refusal.WrongSize
+          by true e =
+              either P (not (table_formed ts)) _ _ (refuses refusal.WrongTable) (asked_case e (asks.asks ts s (cid_at ours 0) v d))

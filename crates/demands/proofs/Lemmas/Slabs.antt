@@ -1,6 +1,6 @@
 -- The octets of a record's four places taken by themselves, its slab: a wrapper's step does to the slab what it does to the places within the
 -- held octets (`slab_after`, `slab_delivered`), and a step of another record leaves it (`slab_other`). Assumes nothing.
-use Prim.Native.Nat.{ℕ, zero, suc, ◌+◌, ◌-◌, ◌<◌, ◌≤◌}
+use Prim.Native.Nat.{ℕ, suc, ◌+◌, ◌-◌, ◌<◌, ◌≤◌}
 use mathlib.Core.Bool.{Bool, true, false}
 use mathlib.Core.List.{List, [], ◌∷◌, ◌++◌}
 use mathlib.Core.Logic.{◌≢◌, ◌⊎◌, inl, inr}
