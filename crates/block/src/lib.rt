@@ -64,13 +64,15 @@ struct Flags(u8);
 
 const MOST_BLOCK: usize = 65535;
 
-const NOTHING: Found = Found {
+// No message: what stands before the first PDU, which takes nothing from it.
+pub const NOTHING: Found = Found {
     vector: 0,
     place: 0,
     len: 0,
 };
 
-const START: Cursor = Cursor {
+// The cursor before the first message of a block.
+pub const START: Cursor = Cursor {
     next: 0,
     before: NOTHING,
 };

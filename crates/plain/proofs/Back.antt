@@ -17,7 +17,7 @@ use Rattle.message.specs.declared.Address.TheVariants as address
 use Rattle.message.specs.declared.Join.{Join}
 use Rattle.message.specs.declared.Message.{Message}
 use Rattle.message.specs.declared.Message.TheVariants as message
-use Rattle.plain.specs.Messages.{destination_of, parameters_of, join_with, join_plain, plain_of, address_of, typed_of}
+use Rattle.plain.specs.Messages.{destination_of, parameters_of, join_plain, plain_of, address_of, typed_of}
 
 -- an address of another type than null and IPv4 has neither of their numbers
 abbrev pub ProperAddress : Address → Type 0
@@ -35,7 +35,7 @@ address_back (address.Other t) h =
     rw (ne_eqb t null (λ e. omega arith), ne_eqb t ipv4 (λ e. omega arith))
 
 pub typed_plain : (m : Message) → Proper m → typed_of (plain_of m) ≡ Some m
-unfolding typed_of plain_of join_plain join_with
+unfolding typed_of plain_of join_plain
 typed_plain (message.ReliableWrapper w) h = refl
 typed_plain (message.UnreliableWrapper w) h = refl
 typed_plain (message.Join j) h = rw (address_back j.address (h j refl))

@@ -86,15 +86,11 @@ parameters_of (address.Null p) = p
 parameters_of (address.Ipv4 e p) = p
 parameters_of (address.Other t) = no_parameters
 
--- a Join with this destination and these parameters
-unfoldable pub join_with : Join → Destination → Parameters → Plain
-join_with j d p =
+unfoldable pub join_plain : Join → Plain
+join_plain j =
     plain join 0 j.reciprocal no_missed (subject j.cid j.channel j.mid j.reliable.0)
     (record { total = j.total.0; oldest = 0; first = 0; last = 0; threshold = 0 })
-    d p
-
-unfoldable pub join_plain : Join → Plain
-join_plain j = join_with j (destination_of j.address) (parameters_of j.address)
+    (destination_of j.address) (parameters_of j.address)
 
 unfoldable pub plain_of : Message → Plain
 plain_of (message.ReliableWrapper w) = wrapper_plain reliable_wrapper w

@@ -2,7 +2,7 @@
 #![tactic(auto)]
 
 ghost use Rattle.std.specs.Prelude.{◌≡◌};
-ghost use Rattle.plain.specs.Messages.{member_subject, wrapper_plain, join_with, join_plain, plain_of, address_of, member_of, wrapper_of, join_of, typed_of};
+ghost use Rattle.plain.specs.Messages.{member_subject, wrapper_plain, join_plain, plain_of, address_of, member_of, wrapper_of, join_of, typed_of};
 
 use counter::{Reliable, Total};
 use message::{Address, Cid, Endpoint, Join, Membership, Message, Parameters, Wrapper};
@@ -140,54 +140,46 @@ fn wrapper_plain(vector: u8, w: Wrapper) -> Plain
     }
 }
 
-// A Join with this destination and these parameters. Each address type calls this for itself: if they were chosen first, reading a message
-// would take 1.47 times the instructions of plain C, over the limit of 1.3 (bench/run).
-#[tactic(auto, unfolding(crate::specs::Messages::join_with))]
-fn join_with(j: Join, destination: Destination, parameters: Parameters) -> Plain
-    ensures { result ≡ join_with j destination parameters }
-{
-    Plain {
-        vector: message::JOIN,
-        reciprocal: j.reciprocal,
-        subject: Subject {
-            cid: j.cid,
-            reliable: j.reliable.0,
-            channel: j.channel,
-            mid: j.mid,
-        },
-        order: Order {
-            total: j.total.0,
-            ..EMPTY.order
-        },
-        destination,
-        parameters,
-        ..EMPTY
-    }
-}
-
 impl From<Join> for Plain {
     ghost from_gives = { λ j p. p ≡ join_plain j };
 
     #[inline(always)]
     #[tactic(auto, unfolding(crate::specs::Messages::join_plain))]
     fn from(j: Join) -> Plain {
-        match j.address {
-            Address::Null(p) => join_with(j, EMPTY.destination, p),
-            Address::Ipv4(e, p) => {
-                let destination = Destination {
+        let (destination, parameters) = match j.address {
+            Address::Null(p) => (EMPTY.destination, p),
+            Address::Ipv4(e, p) => (
+                Destination {
                     host: e.host,
                     port: e.port,
                     kind: message::ADDRESS_IPV4,
-                };
-                join_with(j, destination, p)
-            }
-            Address::Other(kind) => {
-                let destination = Destination {
+                },
+                p,
+            ),
+            Address::Other(kind) => (
+                Destination {
                     kind,
                     ..EMPTY.destination
-                };
-                join_with(j, destination, EMPTY.parameters)
-            }
+                },
+                EMPTY.parameters,
+            ),
+        };
+        Plain {
+            vector: message::JOIN,
+            reciprocal: j.reciprocal,
+            subject: Subject {
+                cid: j.cid,
+                reliable: j.reliable.0,
+                channel: j.channel,
+                mid: j.mid,
+            },
+            order: Order {
+                total: j.total.0,
+                ..EMPTY.order
+            },
+            destination,
+            parameters,
+            ..EMPTY
         }
     }
 }

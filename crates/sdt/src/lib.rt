@@ -8,7 +8,7 @@ ghost use Rattle.sdt.specs.Blocks.{place_of, block_answer, open_answer};
 ghost use Rattle.sdt.specs.Messages.{message_answer, write_answer};
 ghost use Rattle.sdt.specs.Allowed.{SdtReadBlockAllows, SdtOpenBlockAllows, SdtNextMessageAllows, SdtReadMessageAllows, SdtWriteMessageAllows};
 
-use block::{Astray, Cursor, Found, Opened};
+use block::{Astray, Cursor, Found, NOTHING, Opened, START};
 use message::Message;
 use plain::Plain;
 use refusal::Refusal;
@@ -21,17 +21,6 @@ const FEWER: u32 = 100;
 
 // The cursor cannot be one of this block's.
 const ASTRAY: u32 = 101;
-
-const NO_FOUND: Found = Found {
-    vector: 0,
-    place: 0,
-    len: 0,
-};
-
-const START: Cursor = Cursor {
-    next: 0,
-    before: NO_FOUND,
-};
 
 // What reading one message of a block answers; `bad` is the place of the first malformed PDU.
 #[repr(C)]
@@ -97,12 +86,12 @@ impl From<Result<Option<Found>, Refusal>> for BlockAnswer {
             },
             Ok(None) => BlockAnswer {
                 outcome: FEWER,
-                found: NO_FOUND,
+                found: NOTHING,
                 bad: 0,
             },
             Err(r) => BlockAnswer {
                 outcome: r.number() as u32,
-                found: NO_FOUND,
+                found: NOTHING,
                 bad: place_of(r),
             },
         }
@@ -195,12 +184,12 @@ pub fn sdt_next_message(block: &[u8], cursor: Cursor) -> NextAnswer
         },
         Ok(None) => NextAnswer {
             outcome: FEWER,
-            found: NO_FOUND,
+            found: NOTHING,
             cursor,
         },
         Err(Astray) => NextAnswer {
             outcome: ASTRAY,
-            found: NO_FOUND,
+            found: NOTHING,
             cursor,
         },
     }
