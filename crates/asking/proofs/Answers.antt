@@ -13,8 +13,6 @@ use Rattle.message.specs.declared.Join.{Join}
 use Rattle.message.specs.declared.Wrapper.{Wrapper}
 use Rattle.message.specs.declared.Message.{Message}
 use Rattle.message.specs.declared.Message.TheVariants as message
-use Rattle.message.specs.declared.MessageRead.{MessageRead}
-use Rattle.message.specs.declared.MessageRead.TheVariants.{Read, Unreadable}
 use Rattle.record.specs.WellFormed.{most_contents}
 use Rattle.record.specs.declared.Record.{Record}
 use Rattle.refusal.specs.declared.Refusal.{Refusal}
@@ -27,7 +25,7 @@ use Rattle.asking.specs.declared.Asked.TheVariants as asked
 
 -- ---- a wrapper
 
-module _ (ts : List Record) (s : Cid) (b : Bool) (w : Wrapper) (n : ℕ) (f : Option ℕ) (e : f ≡ found 0 s w.channel ts) where
+module _ (ts : List Record) (s : Cid) (b : Bool) (w : Wrapper) (n : ℕ) (f : Option ℕ) (e : f ≡ found s w.channel ts) where
   pub wrapper_unknown : f ≡ None → Err refusal.NoRecord ≡ wrapper_asks ts s b w n
   unfolding wrapper_asks
   wrapper_unknown u = rw (← e, u)
@@ -60,12 +58,8 @@ module _ (ts : List Record) (s o : Cid) where
   other_asks (message.GetSessions cid) n a b c d = refl
 
   module _ (v : ℕ) (d : List ℕ) where
-    module _ (r : MessageRead) (e : r ≡ read_message v d) where
-      pub asks_unreadable : r ≡ Unreadable → Err refusal.NoForm ≡ asked_of ts s o v d
-      unfolding asked_of
-      asks_unreadable f = rw (← e, f)
-
-      module _ (m : Message) (f : r ≡ Read m) where
+    module _ (r : Result Message Refusal) (e : r ≡ read_message v d) where
+      module _ (m : Message) (f : r ≡ Ok m) where
         asks_read : asked_of ts s o v d ≡ message_asks ts s o m (length d - 20)
         unfolding asked_of
         asks_read = rw (← e, f, length-drop 20 d)
@@ -88,4 +82,4 @@ module _ (ts : List Record) (s o : Cid) where
             → ((j : Join) → m ≡ message.Join j → ⊥) → ((r : Reliable) → m ≡ message.Ack r → ⊥) → Err refusal.NotForUs ≡ asked_of ts s o v d
         asks_other a b c k = rw asks_read (other_asks m (length d - 20) a b c k)
 
-pub ruleset messages = (asks_unreadable, asks_reliable, asks_unreliable, asks_join, asks_ack, asks_other)
+pub ruleset messages = (asks_reliable, asks_unreliable, asks_join, asks_ack, asks_other)

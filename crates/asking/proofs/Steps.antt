@@ -5,7 +5,7 @@ use mathlib.Core.List.{List}
 use mathlib.Core.Path.{◌≡◌, refl}
 use native.Mathlib.Omega.{arith}
 use lib.Dec.{ltb, eqb}
-use Rattle.std.specs.Prelude.{Option, Some, None, Ok, Err}
+use Rattle.std.specs.Prelude.{Option, Some, None, Result, Ok, Err}
 use lib.ListN.{length}
 use borrow.Author.Tests.{ltb-false}
 use Rattle.message.specs.Lengths.{reliable_wrapper}
@@ -13,10 +13,9 @@ use Rattle.message.specs.Layouts.{wrapper_of}
 use Rattle.message.specs.Reading.{read_message, contents}
 use Rattle.message.specs.declared.Cid.{Cid}
 use Rattle.message.specs.declared.Join.{Join}
+use Rattle.message.specs.declared.Message.{Message}
 use Rattle.message.specs.declared.Wrapper.{Wrapper}
 use Rattle.message.specs.declared.Message.TheVariants as message
-use Rattle.message.specs.declared.MessageRead.{MessageRead}
-use Rattle.message.specs.declared.MessageRead.TheVariants.{Read, Unreadable}
 use Rattle.record.specs.WellFormed.{most_contents}
 use Rattle.record.specs.declared.Record.{Record}
 use Rattle.refusal.specs.declared.Refusal.{Refusal}
@@ -31,7 +30,7 @@ use Rattle.asking.proofs.Wrappers.{reliable_read, unreliable_read}
 
 -- data d of vector v, from s, asks for a step of record i by w
 pub record Step (ts : List Record) (s : Cid) (v : ℕ) (d : List ℕ) (i : ℕ) (w : Arrived) : Type 0 where
-  pub finds : found 0 s (wrapper_of d).channel ts ≡ Some i
+  pub finds : found s (wrapper_of d).channel ts ≡ Some i
   pub within : i < length ts
   pub used : (record_at ts i).used ≡ true
   pub named : named s (wrapper_of d).channel (record_at ts i) ≡ true
@@ -54,12 +53,12 @@ module _ (ts : List Record) (s o : Cid) (i : ℕ) (w : Arrived) where
 
   -- a wrapper asks for a step of the record that it found, and its contents fit
   wrapper_step_lem : (b : Bool) (x : Wrapper) (n : ℕ) → wrapper_asks ts s b x n ≡ Ok (asked.Wrapper i w)
-      → (found 0 s x.channel ts ≡ Some i) × (n ≤ most_contents) × (w ≡ arrived_of b x n)
+      → (found s x.channel ts ≡ Some i) × (n ≤ most_contents) × (w ≡ arrived_of b x n)
   unfolding wrapper_asks
-  wrapper_step_lem b x n e = by (found 0 s x.channel ts) (ltb most_contents n) refl refl e
+  wrapper_step_lem b x n e = by (found s x.channel ts) (ltb most_contents n) refl refl e
     where
-      by : (f : Option ℕ) (t : Bool) → found 0 s x.channel ts ≡ f → ltb most_contents n ≡ t → wrapper_for f b x n ≡ Ok (asked.Wrapper i w)
-          → (found 0 s x.channel ts ≡ Some i) × (n ≤ most_contents) × (w ≡ arrived_of b x n)
+      by : (f : Option ℕ) (t : Bool) → found s x.channel ts ≡ f → ltb most_contents n ≡ t → wrapper_for f b x n ≡ Ok (asked.Wrapper i w)
+          → (found s x.channel ts ≡ Some i) × (n ≤ most_contents) × (w ≡ arrived_of b x n)
       by None t g h e = absurd (refused_is_none refusal.NoRecord e)
       by (Some j) true g h e = absurd (refused_is_none refusal.ContentsOver (rw h at e))
       by (Some j) false g h e =
@@ -88,18 +87,18 @@ module _ (ts : List Record) (s o : Cid) (i : ℕ) (w : Arrived) where
     unfolding asked_of
     asked_wrapper e = from (read_message v d) refl e
       where
-        from : (r : MessageRead) → read_message v d ≡ r → read_asks ts s o r (length (contents d)) ≡ Ok (asked.Wrapper i w) → Step ts s v d i w
-        from Unreadable g e = absurd (refused_is_none refusal.NoForm e)
-        from (Read (message.ReliableWrapper x)) g e =
+        from : (r : Result Message Refusal) → read_message v d ≡ r → read_asks ts s o r (length (contents d)) ≡ Ok (asked.Wrapper i w) → Step ts s v d i w
+        from (Err why) g e = absurd (refused_is_none why e)
+        from (Ok (message.ReliableWrapper x)) g e =
             let q = reliable_read v d x g in
             step true (rw q.0) q.2 (rw (← q.1) e)
-        from (Read (message.UnreliableWrapper x)) g e =
+        from (Ok (message.UnreliableWrapper x)) g e =
             let q = unreliable_read v d x g in
             step false (rw q.0) q.2 (rw (← q.1) e)
-        from (Read (message.Join j)) g e = absurd (join_is_none j e)
-        from (Read (message.JoinRefuse m reason)) g e = absurd (refused_is_none refusal.NotForUs e)
-        from (Read (message.JoinAccept m reciprocal)) g e = absurd (refused_is_none refusal.NotForUs e)
-        from (Read (message.Leaving m reason)) g e = absurd (refused_is_none refusal.NotForUs e)
-        from (Read (message.Ack r)) g e = absurd (refused_is_none refusal.NoForm e)
-        from (Read (message.Nak m first last)) g e = absurd (refused_is_none refusal.NotForUs e)
-        from (Read (message.GetSessions cid)) g e = absurd (refused_is_none refusal.NotForUs e)
+        from (Ok (message.Join j)) g e = absurd (join_is_none j e)
+        from (Ok (message.JoinRefuse m reason)) g e = absurd (refused_is_none refusal.NotForUs e)
+        from (Ok (message.JoinAccept m reciprocal)) g e = absurd (refused_is_none refusal.NotForUs e)
+        from (Ok (message.Leaving m reason)) g e = absurd (refused_is_none refusal.NotForUs e)
+        from (Ok (message.Ack r)) g e = absurd (refused_is_none refusal.NoForm e)
+        from (Ok (message.Nak m first last)) g e = absurd (refused_is_none refusal.NotForUs e)
+        from (Ok (message.GetSessions cid)) g e = absurd (refused_is_none refusal.NotForUs e)

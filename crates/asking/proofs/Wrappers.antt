@@ -12,8 +12,8 @@ use Rattle.message.specs.Reading.{readable, fixed_of, message_of, read_message}
 use Rattle.message.specs.declared.Wrapper.{Wrapper}
 use Rattle.message.specs.declared.Message.{Message}
 use Rattle.message.specs.declared.Message.TheVariants as message
-use Rattle.message.specs.declared.MessageRead.{MessageRead}
-use Rattle.message.specs.declared.MessageRead.TheVariants.{Read}
+use Rattle.refusal.specs.declared.Refusal.{Refusal}
+use Rattle.std.specs.Prelude.{Result, Ok}
 use Rattle.message.proofs.Readable.{reliable_length, unreliable_length}
 use Rattle.message.proofs.Arms.{answered}
 use Rattle.message.proofs.Refused.{refused_exactly}
@@ -54,21 +54,21 @@ module _ (v : ℕ) (d : List ℕ) where
   -- ---- what is read
 
   -- what is read is the message of its readable data
-  read_is : (m : Message) → read_message v d ≡ Read m → (readable v d ≡ true) × (message_of v d ≡ m)
+  read_is : (m : Message) → read_message v d ≡ Ok m → (readable v d ≡ true) × (message_of v d ≡ m)
   read_is m e = by (readable v d) refl
     where
       by : (t : Bool) → readable v d ≡ t → (readable v d ≡ true) × (message_of v d ≡ m)
       by true r = (r, cc (answered v d (message_of v d) r refl))
       by false r = let u = (refused_exactly v d).1 r in (cc, cc)
 
-  pub reliable_read : (w : Wrapper) → read_message v d ≡ Read (message.ReliableWrapper w)
+  pub reliable_read : (w : Wrapper) → read_message v d ≡ Ok (message.ReliableWrapper w)
       → (v ≡ reliable_wrapper) × (w ≡ wrapper_of d) × (20 ≤ length d)
   reliable_read w e =
       let r = read_is _ e in
       let x : Wrapped v d (message.ReliableWrapper w) = rw r.1 at wrapped in
       (x.0, x.1, reliable_length v d r.0 x.0)
 
-  pub unreliable_read : (w : Wrapper) → read_message v d ≡ Read (message.UnreliableWrapper w)
+  pub unreliable_read : (w : Wrapper) → read_message v d ≡ Ok (message.UnreliableWrapper w)
       → (v ≡ unreliable_wrapper) × (w ≡ wrapper_of d) × (20 ≤ length d)
   unreliable_read w e =
       let r = read_is _ e in
@@ -76,7 +76,7 @@ module _ (v : ℕ) (d : List ℕ) where
       (x.0, x.1, unreliable_length v d r.0 x.0)
 
   -- the length, as the code that reads it has its facts
-  module _ (r : MessageRead) (e : r ≡ read_message v d) (m : Message) (f : r ≡ Read m) (w : Wrapper) where
+  module _ (r : Result Message Refusal) (e : r ≡ read_message v d) (m : Message) (f : r ≡ Ok m) (w : Wrapper) where
     pub reliable_long : m ≡ message.ReliableWrapper w → 20 ≤ length d
     reliable_long g = (reliable_read w (cc)).2
 

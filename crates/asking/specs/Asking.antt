@@ -6,8 +6,6 @@ use Rattle.message.specs.declared.Join.{Join}
 use Rattle.message.specs.declared.Wrapper.{Wrapper}
 use Rattle.message.specs.declared.Message.{Message}
 use Rattle.message.specs.declared.Message.TheVariants as message
-use Rattle.message.specs.declared.MessageRead.{MessageRead}
-use Rattle.message.specs.declared.MessageRead.TheVariants as read
 use Rattle.record.specs.WellFormed.{most_contents}
 use Rattle.record.specs.declared.Record.{Record}
 use Rattle.refusal.specs.declared.Refusal.{Refusal}
@@ -38,7 +36,7 @@ wrapper_for (Some i) reliably w len = cond (ltb most_contents len) (Err refusal.
 
 -- a wrapper belongs to the record of its sender and of the channel that it names
 unfoldable pub wrapper_asks : List Record → Cid → Bool → Wrapper → ℕ → Result Asked Refusal
-wrapper_asks ts s reliably w len = wrapper_for (found 0 s w.channel ts) reliably w len
+wrapper_asks ts s reliably w len = wrapper_for (found s w.channel ts) reliably w len
 
 -- 5 if a Join is meant for another component than ours
 unfoldable pub join_asks : Cid → Join → Result Asked Refusal
@@ -56,10 +54,10 @@ message_asks ts s o (message.Ack r) len = Err refusal.NoForm
 message_asks ts s o (message.Nak m first last) len = Err refusal.NotForUs
 message_asks ts s o (message.GetSessions cid) len = Err refusal.NotForUs
 
--- 4 for what cannot be read
-abbrev pub read_asks : List Record → Cid → Cid → MessageRead → ℕ → Result Asked Refusal
-read_asks ts s o (read.Read m) len = message_asks ts s o m len
-read_asks ts s o read.Unreadable len = Err refusal.NoForm
+-- what cannot be read is refused as reading refuses it, by 4
+abbrev pub read_asks : List Record → Cid → Cid → Result Message Refusal → ℕ → Result Asked Refusal
+read_asks ts s o (Ok m) len = message_asks ts s o m len
+read_asks ts s o (Err why) len = Err why
 
 -- v is the vector and d the data
 unfoldable pub asked_of : List Record → Cid → Cid → ℕ → List ℕ → Result Asked Refusal

@@ -1,12 +1,10 @@
 // What a message asks of the table: a Join, or a step of one record by a wrapper; or it is refused by 4 to 7.
 #![tactic(auto)]
 
-ghost use Rattle.std.specs.Prelude.{◌≡◌, length};
-ghost use Rattle.message.specs.Layouts.{cid_at};
+ghost use Rattle.std.specs.Prelude.{◌≡◌};
 ghost use Rattle.asking.specs.Asking.{arrived_of, wrapper_asks, join_asks, asked_of};
 
-use message::{Cid, Join, MOST_CONTENTS, Message, MessageRead, Wrapper};
-use octets::u64_at;
+use message::{Cid, Join, MOST_CONTENTS, Message, Wrapper};
 use record::Record;
 use refusal::Refusal;
 use wrapper::Arrived;
@@ -19,17 +17,6 @@ pub const FIELDS: usize = 20;
 pub enum Asked {
     Join(Join),
     Wrapper { at: usize, arrived: Arrived },
-}
-
-// The CID that 16 octets are.
-pub fn cid_of(s: &[u8]) -> Cid
-    requires { length s.now ≡ 16 }
-    ensures { result ≡ cid_at s.now 0 }
-{
-    Cid {
-        high: u64_at(s, 0),
-        low: u64_at(s, 8),
-    }
 }
 
 fn arrived_of(reliably: bool, w: Wrapper, len: u16) -> Arrived
@@ -88,9 +75,7 @@ pub fn asks(
 ) -> Result<Asked, Refusal>
     ensures { result ≡ asked_of table sender ours vector body.now }
 {
-    let MessageRead::Read(m) = message::read_message(vector, body) else {
-        return Err(Refusal::NoForm);
-    };
+    let m = message::read_message(vector, body)?;
     match m {
         Message::ReliableWrapper(w) => wrapper_asks(table, sender, true, w, body.len() - FIELDS),
         Message::UnreliableWrapper(w) => wrapper_asks(table, sender, false, w, body.len() - FIELDS),

@@ -52,8 +52,8 @@ pub message_replies : (ts : List Record) (held : List ℕ) (deliver reply : ℕ)
 unfolding join_outcome plan_outcome
 message_replies ts held deliver reply sender ours v d n wide b c g =
     message_cases ts held deliver reply sender ours v d n (λ out. ReadFrom out.reply 0 (given_means ts o j n out.given)) (λ why. none_read)
-    (decided_read o j (existing_at ts (found 0 o j.channel ts)) n (is_some (lowest_free 0 ts)) (join_fits sender d b c) g
-    (known (found 0 o j.channel ts) refl))
+    (decided_read o j (existing_at ts (found o j.channel ts)) n (is_some (lowest_free ts)) (join_fits sender d b c) g
+    (known (found o j.channel ts) refl))
     (λ sized i carries.
     let w = wide i carries.within in
     step_reply_read (record_at ts i) (brought v d) w.0 w.1 (wrapper_says v d c))
@@ -65,7 +65,7 @@ message_replies ts held deliver reply sender ours v d n wide b c g =
     j = join_of d
 
     -- what the table has for the Join
-    known : (f : Option ℕ) → found 0 o j.channel ts ≡ f → FitExisting (existing_at ts f)
+    known : (f : Option ℕ) → found o j.channel ts ≡ f → FitExisting (existing_at ts f)
     known None e = tt
     known (Some i) e =
         let w = wide i (found_at_lem o j.channel ts i e).0 in
@@ -103,7 +103,7 @@ pub leave_replies : (ts : List Record) (reply : ℕ) (owner : List ℕ) (channel
 unfolding leave_outcome departing
 leave_replies ts reply owner channel reason wide =
     either Sent (not (leave_sizes (length ts) reply (length owner))) _ _ none_read
-    (either Sent (not (table_formed ts)) _ _ none_read (by (found 0 (cid_at owner 0) channel ts) refl))
+    (either Sent (not (table_formed ts)) _ _ none_read (by (found (cid_at owner 0) channel ts) refl))
   where
     Sent : Departing → Type 0
     Sent p = ReadFrom p.reply 0 (leave_means ts reason p.given)
@@ -112,7 +112,7 @@ leave_replies ts reply owner channel reason wide =
     on i l true e = leave_read (record_at ts i) reason (wide i l).0 (wide i l).1 e
     on i l false e = none_read
 
-    by : (f : Option ℕ) → found 0 (cid_at owner 0) channel ts ≡ f → Sent (leave_for ts reason f)
+    by : (f : Option ℕ) → found (cid_at owner 0) channel ts ≡ f → Sent (leave_for ts reason f)
     by None e = none_read
     by (Some i) e = on i (found_at_lem (cid_at owner 0) channel ts i e).0 (leaving_reason reason) refl
 

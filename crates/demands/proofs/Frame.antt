@@ -71,7 +71,7 @@ pub leave_frame : (ts : List Record) (reply : ℕ) (owner : List ℕ) (channel r
     → record_at (leave_outcome ts reply owner channel reason).table k ≡ record_at ts k
 unfolding leave_outcome departing
 leave_frame ts reply owner channel reason k =
-    by (not (leave_sizes (length ts) reply (length owner))) (not (table_formed ts)) (found 0 (cid_at owner 0) channel ts) (leaving_reason reason) refl
+    by (not (leave_sizes (length ts) reply (length owner))) (not (table_formed ts)) (found (cid_at owner 0) channel ts) (leaving_reason reason) refl
   where
     comes : Bool → Bool → Option ℕ → Departing
     comes a b f = cond a (refused_leave ts refusal.WrongSize) (cond b (refused_leave ts refusal.WrongTable) (leave_for ts reason f))

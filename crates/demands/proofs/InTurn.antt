@@ -263,7 +263,7 @@ message_made : (ts : List Record) (i : ℕ) (p : Parameters) (held : List ℕ) (
     × (i < length ts)
 unfolding join_outcome plan_outcome
 message_made ts i p held deliver reply sender ours v d n =
-    message_cases ts held deliver reply sender ours v d n Made (λ why e. never (cc)) (joined_made _ (lowest_free 0 ts) _ refl)
+    message_cases ts held deliver reply sender ours v d n Made (λ why e. never (cc)) (joined_made _ (lowest_free ts) _ refl)
     (λ sized k carries e. never (cc))
   where
     Made : Outcome → Type 0
@@ -271,7 +271,7 @@ message_made ts i p held deliver reply sender ours v d n =
         out.given ≡ Ok (given.Joined (Some i) (decision.Make p))
         → (out.table ≡ set ts i (new_record (record_at ts i) (cid_at sender 0) (join_of d) p n)) × (i < length ts)
 
-    joined_made : (known free : Option ℕ) (answer : Decision) → lowest_free 0 ts ≡ free
+    joined_made : (known free : Option ℕ) (answer : Decision) → lowest_free ts ≡ free
         → Made (join_done ts held (cid_at sender 0) (join_of d) n known free answer)
     joined_made known free (decision.Refuse reason) f e = never (cc)
     joined_made known free (decision.Again r reciprocal) f e = never (cc)

@@ -94,7 +94,7 @@ leave_told : (ts : List Record) (reply : ℕ) (owner : List ℕ) (channel reason
     → LeaveTold ts (first_number (leave_checks ts reply owner channel reason)) (leave_outcome ts reply owner channel reason)
 unfolding leave_outcome departing first_number
 leave_told ts reply owner channel reason =
-    by (not (leave_sizes (length ts) reply (length owner))) (not (table_formed ts)) (found 0 (cid_at owner 0) channel ts) (leaving_reason reason) refl
+    by (not (leave_sizes (length ts) reply (length owner))) (not (table_formed ts)) (found (cid_at owner 0) channel ts) (leaving_reason reason) refl
   where
     by : (a b : Bool) (f : Option ℕ) (c : Bool) → leaving_reason reason ≡ c
         → LeaveTold ts (first_number (check 1 a ∷ check 2 b ∷ check 6 (not (is_some f)) ∷ check 10 (not c) ∷ []))
@@ -216,17 +216,17 @@ module _ (ts : List Record) (held : List ℕ) (s : Cid) (n : ℕ) (c : List ℕ)
       (first_number
       (check 4 (unreadable v d)
       ∷ check 5 (not (is_wrapper v) && not (eqb v join && same (join_of d).cid o))
-      ∷ check 6 (is_wrapper v && not (is_some (found 0 s (wrapper_of d).channel ts)))
+      ∷ check 6 (is_wrapper v && not (is_some (found s (wrapper_of d).channel ts)))
       ∷ check 7 (too_long v d)
-      ∷ check 8 (is_wrapper v && is_old (judged (record_found ts (found 0 s (wrapper_of d).channel ts)) (eqb v reliable_wrapper) (wrapper_of d).total (wrapper_of d).reliable))
-      ∷ check 9 (is_wrapper v && is_inconsistent (judged (record_found ts (found 0 s (wrapper_of d).channel ts)) (eqb v reliable_wrapper) (wrapper_of d).total (wrapper_of d).reliable))
+      ∷ check 8 (is_wrapper v && is_old (judged (record_found ts (found s (wrapper_of d).channel ts)) (eqb v reliable_wrapper) (wrapper_of d).total (wrapper_of d).reliable))
+      ∷ check 9 (is_wrapper v && is_inconsistent (judged (record_found ts (found s (wrapper_of d).channel ts)) (eqb v reliable_wrapper) (wrapper_of d).total (wrapper_of d).reliable))
       ∷ []))
       (asked_outcome ts held s n c (asked_of ts s o v d))
   unfolding asked_of read_message message_of first_number wrapper_asks
   asked_told o v d = split (eqb v ack) refl
     where
       f : Option ℕ
-      f = found 0 s (wrapper_of d).channel ts
+      f = found s (wrapper_of d).channel ts
 
       by : eqb v ack ≡ false → (r x y z q : Bool) → same (join_of d).cid o ≡ q
           → MessageTold ts held

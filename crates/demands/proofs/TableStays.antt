@@ -85,9 +85,9 @@ leave_right : (ts : List Record) (reply : ℕ) (owner : List ℕ) (channel reaso
 unfolding leave_outcome departing
 leave_right ts reply owner channel reason t =
     either (λ (p : Departing). RightTable p.table) (not (leave_sizes (length ts) reply (length owner))) _ _ t
-    (either (λ (p : Departing). RightTable p.table) (not (table_formed ts)) _ _ t (by (found 0 (cid_at owner 0) channel ts) refl))
+    (either (λ (p : Departing). RightTable p.table) (not (table_formed ts)) _ _ t (by (found (cid_at owner 0) channel ts) refl))
   where
-    by : (f : Option ℕ) → found 0 (cid_at owner 0) channel ts ≡ f → RightTable (leave_for ts reason f).table
+    by : (f : Option ℕ) → found (cid_at owner 0) channel ts ≡ f → RightTable (leave_for ts reason f).table
     by None e = t
     by (Some i) e =
         let h = (found_at_lem (cid_at owner 0) channel ts i e).0 in
@@ -168,18 +168,18 @@ record Keeps (held : List ℕ) (out : Outcome) : Type 0 where
 module _ {ts : List Record} (t : RightTable ts) (held : List ℕ) where
   -- a Join that makes a record finds none of its owner and channel
   new_channel : (s : Cid) (j : Join) (n : ℕ) (p : Parameters) (free : Bool)
-      → decided j (existing_at ts (found 0 s j.channel ts)) n free ≡ decision.Make p
+      → decided j (existing_at ts (found s j.channel ts)) n free ≡ decision.Make p
       → (k : ℕ) → named s j.channel (record_at ts k) ≡ false
   new_channel s j n p free e =
       found_nowhere s j.channel ts
-      (by (found 0 s j.channel ts) ((accepted_new j (existing_at ts (found 0 s j.channel ts)) n free p).0 e).2)
+      (by (found s j.channel ts) ((accepted_new j (existing_at ts (found s j.channel ts)) n free p).0 e).2)
     where
       by : (f : Option ℕ) → existing_at ts f ≡ None → f ≡ None
       by None u = refl
       by (Some i) u = never (cc)
 
   made_right : (s : Cid) (j : Join) (n : ℕ) → Both j.total j.reliable → (d : Decision) (f : Option ℕ) (free : Bool)
-      → decided j (existing_at ts (found 0 s j.channel ts)) n free ≡ d → lowest_free 0 ts ≡ f → RightTable (table_after ts s j n d f)
+      → decided j (existing_at ts (found s j.channel ts)) n free ≡ d → lowest_free ts ≡ f → RightTable (table_after ts s j n d f)
   unfolding new_record
   made_right s j n b (decision.Refuse reason) f free e g = t
   made_right s j n b (decision.Again r reciprocal) f free e g = t
@@ -194,7 +194,7 @@ module _ {ts : List Record} (t : RightTable ts) (held : List ℕ) where
 
   join_keeps : (s : Cid) (j : Join) (n : ℕ) → Both j.total j.reliable → Keeps held (join_outcome ts held s j n)
   unfolding join_outcome
-  join_keeps s j n b = record { table = made_right s j n b _ (lowest_free 0 ts) (is_some (lowest_free 0 ts)) refl refl; size = refl }
+  join_keeps s j n b = record { table = made_right s j n b _ (lowest_free ts) (is_some (lowest_free ts)) refl refl; size = refl }
 
   message_keeps : (deliver reply : ℕ) (sender ours : List ℕ) (v : ℕ) (d : List ℕ) (n : ℕ) → Octets d
       → Keeps held (message_outcome ts held deliver reply sender ours v d n)

@@ -58,7 +58,7 @@ not_for_us ours v d = not (is_wrapper v) && not (eqb v join && same (join_of d).
 
 -- where the table has the channel that a wrapper names
 abbrev pub own_place : List Record → List ℕ → List ℕ → Option ℕ
-own_place ts sender d = found 0 (cid_at sender 0) (wrapper_of d).channel ts
+own_place ts sender d = found (cid_at sender 0) (wrapper_of d).channel ts
 
 -- 6: a wrapper whose owner and channel no record has
 abbrev pub no_record : List Record → List ℕ → ℕ → List ℕ → Bool
@@ -110,7 +110,7 @@ abbrev pub leave_checks : List Record → ℕ → List ℕ → ℕ → ℕ → L
 leave_checks ts reply owner channel reason =
     check 1 (not (leave_sizes (length ts) reply (length owner)))
     ∷ check 2 (not (table_formed ts))
-    ∷ check 6 (not (is_some (found 0 (cid_at owner 0) channel ts)))
+    ∷ check 6 (not (is_some (found (cid_at owner 0) channel ts)))
     ∷ check 10 (not (leaving_reason reason))
     ∷ []
 

@@ -5,32 +5,36 @@ use mathlib.Core.List.{List, [], ◌∷◌, ◌++◌, map}
 use mathlib.Core.Path.{◌≡◌, refl, sym, ap, ◌∙◌}
 use native.Mathlib.Numerals.{add-one}
 use native.Mathlib.Omega.{arith}
-use lib.ListN.{length, get_or, set, take, drop, replicate, length-map, get_or-map, drop_of_length-le}
+use lib.ListN.{length, get_or, set, take, drop, length-map, get_or-map, drop_of_length-le}
 use lib.Seq.{drop-cons}
 use borrow.Author.Tests.{not-true, not-false, eq-eqb, ne_eqb, lt-ltb, le-ltb}
+use Rattle.std.specs.Prelude.{◌≢◌, Result, Ok, Err}
+use Rattle.std.specs.Array.{IsWholeChunk}
+use Rattle.refusal.specs.declared.Refusal.{Refusal}
+use Rattle.refusal.specs.declared.Refusal.TheVariants as refusal
 use Rattle.octets.specs.Octets.{splice}
 use Rattle.octets.proofs.Writes.{splice_nothing}
 use Rattle.record.specs.WellFormed.{well_formed}
 use Rattle.record.specs.declared.Record.{Record}
-use Rattle.gap.specs.Elapsed.{gives, elapsed_of}
 use Rattle.gap.specs.declared.Event.TheVariants as event
+use Rattle.gap.specs.Elapsed.{gives, elapsed_of}
 use Rattle.gap.specs.declared.Elapsed.{Elapsed}
 use Rattle.table.specs.Table.{table_formed, record_at, blank}
 use Rattle.table.proofs.Tables.{formed}
 use Rattle.sending.specs.Sent.{event_of}
 use Rattle.sending.proofs.Lengths.{event_within}
 use Rattle.member.specs.Sizes.{cell_size, cells_size, elapsed_sizes}
-use Rattle.member.specs.Elapsing.{Passing, longest, refused_elapsed, passing, elapsed_outcome, sent_by, cell_of, passed, cells_from, cells_after, ElapsedEndsAs}
+use Rattle.member.specs.Elapsing.{Passing, longest, refused_elapsed, passing, elapsed_outcome, sent_by, cell_of, passed_table, passed, cells_from, cells_after, ElapsedEndsAs}
 use Rattle.member.specs.declared.Cell.{Cell}
 use Rattle.member.specs.declared.Passed.{Passed}
 use Rattle.member.proofs.Lists.{over, over_none, over_all, over_here, over_more, into_part}
 
 -- what a call answers and leaves in the cells, which were `room`
-abbrev pub Moved : Passing → Passed → List ℕ → List ℕ → Type 0
+abbrev pub Moved : Passing → Result Passed Refusal → List ℕ → List ℕ → Type 0
 Moved p a room after = ElapsedEndsAs p room (record { answer = a; cells = after })
 
 -- from its two parts
-moved_by : (p : Passing) (a : Passed) (room after : List ℕ) → a ≡ passed p → after ≡ cells_after p room → Moved p a room after
+moved_by : (p : Passing) (a : Result Passed Refusal) (room after : List ℕ) → a ≡ passed p → after ≡ cells_after p room → Moved p a room after
 moved_by p a room after e f = λ i. record { answer = e i; cells = f i }
 
 each_length : {A B C : Type 0} (f : B → C) (g : A → B) (xs : List A) → length (map f (map g xs)) ≡ length xs
@@ -38,60 +42,50 @@ each_length f g xs = length-map (map g xs) f ∙ length-map xs g
 
 -- ---- a refusal
 
-abbrev no_cell : Cell
-no_cell = record { event = event.Nothing; len = 0 }
-
-abbrev still : List Record → List Elapsed
-still ts = map (λ r. gives r event.Nothing) ts
-
-still_table : (ts : List Record) → ts ≡ map (λ e. e.after) (still ts)
-still_table [] = refl
-still_table (r ∷ ts) = ap (λ (rs : List Record). r ∷ rs) (still_table ts)
-
-still_cells : (ts : List Record) → replicate (length ts) no_cell ≡ map cell_of (still ts)
-unfolding event_of
-still_cells [] = refl
-still_cells (r ∷ ts) = ap (λ (cs : List Cell). no_cell ∷ cs) (still_cells ts)
-
 -- what sends nothing leaves the cells
-still_room : (i : ℕ) (ts : List Record) (room : List ℕ) → room ≡ cells_from i (still ts) room
+still_room : (i : ℕ) (ts : List Record) (room : List ℕ) → room ≡ cells_from i (map (λ r. gives r event.Nothing) ts) room
 unfolding event_of cells_from
 still_room i [] room = refl
-still_room i (r ∷ ts) room = still_room (i + 1) ts room ∙ ap (cells_from (i + 1) (still ts)) (splice_nothing room (i * cell_size))
+still_room i (r ∷ ts) room =
+    still_room (i + 1) ts room
+    ∙ ap (cells_from (i + 1) (map (λ r. gives r event.Nothing) ts)) (splice_nothing room (i * cell_size))
 
-pub refused_is : (ts : List Record) (number : ℕ) → length ts ≡ 8
-    → ◌≡◌ {A = Passed} (record { table = ts; number = number; cells = replicate 8 no_cell }) (passed (refused_elapsed ts number))
-refused_is ts number l =
-    let t : ts ≡ map (λ e. e.after) (still ts) = still_table ts in
-    let s : replicate 8 no_cell ≡ map cell_of (still ts) = ap (λ (n : ℕ). replicate n no_cell) (sym l) ∙ still_cells ts in
-    cc
-
-refused : (ts : List Record) (number : ℕ) (a : Passed) (room : List ℕ) → a ≡ passed (refused_elapsed ts number)
-    → Moved (refused_elapsed ts number) a room room
-refused ts number a room e = moved_by (refused_elapsed ts number) a room room e (still_room 0 ts room)
+refused : (ts : List Record) (why : Refusal) (a : Result Passed Refusal) (room : List ℕ) → a ≡ Err why → Moved (refused_elapsed ts why) a room room
+refused ts why a room e = moved_by (refused_elapsed ts why) a room room e (still_room 0 ts room)
 
 -- ---- the refusals of a call
 
-module _ (ts : List Record) (room : List ℕ) (ms : ℕ) (a : Passed) (l : length ts ≡ 8) where
-  pub elapsed_sizes_lem : (length room ≡ cells_size → ⊥) → a ≡ passed (refused_elapsed ts 1) → Moved (elapsed_outcome ts (length room) ms) a room room
-  unfolding elapsed_outcome elapsed_sizes
-  elapsed_sizes_lem h e = rw (eq-eqb (length ts) 8 l, ne_eqb (length room) cells_size h) (refused ts 1 a room e)
+module _ (ts : List Record) (room : List ℕ) (ms : ℕ) (a : Result Passed Refusal) (l : length ts ≡ 8) where
+  abbrev Call : List ℕ → Type 0
+  Call after = Moved (elapsed_outcome ts (length room) ms) a room after
 
-  module _ (s : length room ≡ cells_size) (b : Bool) (f : b ≡ table_formed ts) where
-    pub elapsed_unformed : not b ≡ true → a ≡ passed (refused_elapsed ts 2) → Moved (elapsed_outcome ts (length room) ms) a room room
+  pub elapsed_sizes_lem : length room ≢ cells_size → a ≡ Err refusal.WrongSize → Call room
+  unfolding elapsed_outcome elapsed_sizes
+  elapsed_sizes_lem h e = rw (eq-eqb (length ts) 8 l, ne_eqb (length room) cells_size h) (refused ts refusal.WrongSize a room e)
+
+  -- the cells are taken as they were
+  module _ (lent : List ℕ) (s : IsWholeChunk room lent cells_size) (b : Bool) (f : b ≡ table_formed ts) where
+    as_lent : (p : Passing) (after : List ℕ) → Moved p a lent after → Moved p a room after
+    as_lent p after d = rw s.same at d
+
+    pub elapsed_unformed : not b ≡ true → a ≡ Err refusal.WrongTable → Call lent
     unfolding elapsed_outcome elapsed_sizes
-    elapsed_unformed t e = rw (eq-eqb (length ts) 8 l, eq-eqb (length room) cells_size s, ← f, not-true b t) (refused ts 2 a room e)
+    elapsed_unformed t e =
+        rw (eq-eqb (length ts) 8 l, eq-eqb (length room) cells_size s.long, ← f, not-true b t)
+        (as_lent (refused_elapsed ts refusal.WrongTable) lent (refused ts refusal.WrongTable a lent e))
 
     module _ (t : not b ≡ false) where
-      pub elapsed_long : longest < ms → a ≡ passed (refused_elapsed ts 3) → Moved (elapsed_outcome ts (length room) ms) a room room
+      pub elapsed_long : longest < ms → a ≡ Err refusal.TooMuchTime → Call lent
       unfolding elapsed_outcome elapsed_sizes
       elapsed_long h e =
-          rw (eq-eqb (length ts) 8 l, eq-eqb (length room) cells_size s, ← f, not-false b t, lt-ltb longest ms h) (refused ts 3 a room e)
+          rw (eq-eqb (length ts) 8 l, eq-eqb (length room) cells_size s.long, ← f, not-false b t, lt-ltb longest ms h)
+          (as_lent (refused_elapsed ts refusal.TooMuchTime) lent (refused ts refusal.TooMuchTime a lent e))
 
-      pub elapsed_passes : ms ≤ longest → (after : List ℕ) → Moved (passing ts ms) a room after
-          → Moved (elapsed_outcome ts (length room) ms) a room after
+      pub elapsed_passes : ms ≤ longest → (after : List ℕ) → Moved (passing ts ms) a lent after → Call after
       unfolding elapsed_outcome elapsed_sizes
-      elapsed_passes h after e = rw (eq-eqb (length ts) 8 l, eq-eqb (length room) cells_size s, ← f, not-false b t, le-ltb longest ms h) e
+      elapsed_passes h after e =
+          rw (eq-eqb (length ts) 8 l, eq-eqb (length room) cells_size s.long, ← f, not-false b t, le-ltb longest ms h)
+          (as_lent (passing ts ms) after e)
 
 -- ---- the step of one record
 
@@ -99,31 +93,27 @@ module _ (ts : List Record) (room : List ℕ) (ms : ℕ) (a : Passed) (l : lengt
 abbrev pub One : Passed → ℕ → ℕ → Passed → List ℕ → List ℕ → Type 0
 One before i ms a room after =
     (a.table ≡ set before.table i (elapsed_of (record_at before.table i) ms).after)
-    × (a.number ≡ before.number)
     × (a.cells ≡ set before.cells i (cell_of (elapsed_of (record_at before.table i) ms)))
     × (after ≡ splice room (i * cell_size) (sent_by (elapsed_of (record_at before.table i) ms)))
 
 -- what was sent is put into the record's part of the room, which is then `put`
 pub one_passed : (before : Passed) (i ms n : ℕ) (e : Elapsed) (room put : List ℕ) → i < 8 → length room ≡ cells_size
     → e ≡ elapsed_of (record_at before.table i) ms
-    → (n ≡ length (sent_by e)) × (put ≡ splice (take (i * 64 + 64 - i * 64) (drop (i * 64) room)) 0 (sent_by e))
-    → One before i ms
-    (record {
-      table = set before.table i e.after;
-      number = before.number;
-      cells = set before.cells i (record { event = e.event; len = n });
-    })
-    room
-    (take (i * 64) room ++ (put ++ drop (i * 64 + 64 - i * 64) (drop (i * 64) room)))
+    → (n ≡ length (sent_by e)) × (put ≡ splice (take ((i + 1) * 64 - i * 64) (drop (i * 64) room)) 0 (sent_by e))
+    → One before i ms (record { table = set before.table i e.after; cells = set before.cells i (record { event = e.event; len = n }) }) room
+    (take (i * 64) room ++ (put ++ drop ((i + 1) * 64 - i * 64) (drop (i * 64) room)))
 one_passed before i ms n e room put h l s p =
-    let written = into_part room (sent_by e) (i * 64) (i * 64 + 64) (omega (arith, event_within e.after.terms e.event)) (omega arith) in (
+    let written = into_part room (sent_by e) (i * 64) ((i + 1) * 64) (omega (arith, event_within e.after.terms e.event)) (omega arith) in (
       ap (λ (x : Elapsed). set before.table i x.after) s,
-      refl,
       rw p.0 (ap (λ (x : Elapsed). set before.cells i (cell_of x)) s),
       rw p.1 (written ∙ ap (λ (x : Elapsed). splice room (i * 64) (sent_by x)) s),
     )
 
 -- ---- the turns over all records
+
+-- the entries of the cells when all have moved
+abbrev passed_cells : List Record → ℕ → List Cell
+passed_cells ts ms = map cell_of (passing ts ms).each
 
 -- after i turns, which began with the answer `first` and the room `from`: the first i records have moved, and what is left writes of the room so
 -- far what is there in the end
@@ -131,27 +121,19 @@ pub record Turned (ms : ℕ) (first : Passed) (from : List ℕ) (i : ℕ) (a : P
   pub whole : table_formed first.table ≡ true
   pub records : length first.table ≡ 8
   pub places : length first.cells ≡ 8
-  pub table : a.table ≡ over first.table (passed (passing first.table ms)).table i
-  pub number : a.number ≡ first.number
-  pub cells : a.cells ≡ over first.cells (passed (passing first.table ms)).cells i
+  pub table : a.table ≡ over first.table (passed_table (passing first.table ms)) i
+  pub cells : a.cells ≡ over first.cells (passed_cells first.table ms) i
   pub rest : cells_from i (passing (drop i first.table) ms).each room ≡ cells_after (passing first.table ms) from
 
--- the table of a refusal, which is where the turns begin
-refused_table : (ts : List Record) (number : ℕ) (a : Passed) → a ≡ passed (refused_elapsed ts number) → a.table ≡ ts
-refused_table ts number a e = ap (λ (x : Passed). x.table) e ∙ sym (still_table ts)
-
-pub begun : (ts : List Record) (ms : ℕ) (a : Passed) (room : List ℕ) → length ts ≡ 8 → table_formed ts ≡ true
-    → a ≡ passed (refused_elapsed ts 0) → Turned ms a room 0 a room
-begun ts ms a room l w e =
-    let t : a.table ≡ ts = refused_table ts 0 a e in
-    let n : length a.cells ≡ 8 = ap (λ (x : Passed). length x.cells) e ∙ each_length cell_of (λ r. gives r event.Nothing) ts ∙ l in
+pub begun : (first : Passed) (ms : ℕ) (room : List ℕ) → length first.table ≡ 8 → length first.cells ≡ 8 → table_formed first.table ≡ true
+    → Turned ms first room 0 first room
+begun first ms room l n w =
     record {
-      whole = rw t w;
-      records = rw t l;
+      whole = w;
+      records = l;
       places = n;
-      table = over_none a.table (passed (passing a.table ms)).table;
-      number = refl;
-      cells = over_none a.cells (passed (passing a.table ms)).cells;
+      table = over_none first.table (passed_table (passing first.table ms));
+      cells = over_none first.cells (passed_cells first.table ms);
       rest = refl;
     }
 
@@ -174,7 +156,7 @@ module _ (ms : ℕ) (first : Passed) (from : List ℕ) (i : ℕ) (a : Passed) (r
     -- the next record has not moved yet
     this : record_at a.table i ≡ record_at first.table i
     this =
-        let n : length (passed (passing first.table ms)).table ≡ length first.table = each_length _ _ first.table in
+        let n : length (passed_table (passing first.table ms)) ≡ length first.table = each_length _ _ first.table in
         ap (λ (rs : List Record). record_at rs i) t.table
         ∙ over_here first.table _ i (blank []) (omega (arith, t.records)) (omega (arith, t.records, n))
 
@@ -193,23 +175,18 @@ module _ (ms : ℕ) (first : Passed) (from : List ℕ) (i : ℕ) (a : Passed) (r
           records = t.records;
           places = t.places;
           table = rw this at o.0 ∙ each_turn (λ e. e.after) ms first.table first.table a.table i k refl t.table;
-          number = o.1 ∙ t.number;
-          cells = rw this at o.2 ∙ each_turn cell_of ms first.table first.cells a.cells i k n t.cells;
-          rest = rw (rw this at o.3) (rw left at t.rest);
+          cells = rw this at o.1 ∙ each_turn cell_of ms first.table first.cells a.cells i k n t.cells;
+          rest = rw (rw this at o.2) (rw left at t.rest);
         }
 
   -- all have moved
-  pub all_passed : (ts : List Record) → first ≡ passed (refused_elapsed ts 0) → 8 ≤ i → Moved (passing ts ms) a from room
+  pub all_passed : 8 ≤ i → Moved (passing first.table ms) (Ok a) from room
   unfolding cells_from
-  all_passed ts e h =
-      let s : first.table ≡ ts = refused_table ts 0 first e in
-      let p : Passed = passed (passing first.table ms) in
+  all_passed h =
       let none : length first.table ≤ i = omega (arith, t.records) in
-      let tables : length p.table ≡ length first.table = each_length _ _ first.table in
-      let places : length p.cells ≡ length first.table = each_length _ _ first.table in
-      let table : a.table ≡ (passed (passing ts ms)).table = rw (← s) (t.table ∙ over_all first.table p.table i none (omega arith)) in
-      let cells : a.cells ≡ (passed (passing ts ms)).cells =
-      rw (← s) (t.cells ∙ over_all first.cells p.cells i (omega (arith, t.places)) (omega arith)) in
-      let number : a.number ≡ 0 = t.number ∙ ap (λ (x : Passed). x.number) e in
-      let parts : ◌≡◌ {A = Passed} (record { table = a.table; number = a.number; cells = a.cells }) (passed (passing ts ms)) = cc in
-      moved_by (passing ts ms) a from room parts (rw (← s) (rw (drop_of_length-le first.table none) at t.rest))
+      let tables : length (passed_table (passing first.table ms)) ≡ length first.table = each_length _ _ first.table in
+      let places : length (passed_cells first.table ms) ≡ length first.table = each_length _ _ first.table in
+      let table : a.table ≡ passed_table (passing first.table ms) = t.table ∙ over_all first.table _ i none (omega arith) in
+      let cells : a.cells ≡ passed_cells first.table ms = t.cells ∙ over_all first.cells _ i (omega (arith, t.places)) (omega arith) in
+      let parts : ◌≡◌ {A = Passed} a (record { table = passed_table (passing first.table ms); cells = passed_cells first.table ms }) = λ j. record { table = table j; cells = cells j } in
+      moved_by (passing first.table ms) (Ok a) from room (ap Ok parts) (rw (drop_of_length-le first.table none) at t.rest)

@@ -2,8 +2,7 @@
 use Prim.Native.Nat.{ℕ, zero, suc, ◌<◌, ◌≤◌}
 use mathlib.Core.Bool.{true}
 use mathlib.Core.List.{List, [], ◌∷◌}
-use mathlib.Core.Logic.{◌≢◌}
-use mathlib.Core.Path.{◌≡◌}
+use mathlib.Core.Path.{◌≡◌, sym, ◌∙◌}
 use native.Mathlib.Omega.{arith}
 use lib.ListN.{length, get_or, set}
 use mir.Val.{Val}
@@ -12,15 +11,14 @@ use denote.Laws.{Is}
 use denote.Shadow.{shadow}
 use denote.Array.{Array, each}
 use denote.Struct.Declared.{row}
-use borrow.Author.Tests.{ne_eqb}
+use Rattle.std.specs.Prelude.{Result, Ok, Err}
+use Rattle.refusal.specs.declared.Refusal.{Refusal}
 use Rattle.record.specs.WellFormed.{most_contents, well_formed}
 use Rattle.record.specs.declared.Record.{Record}
 use Rattle.record.specs.contracts.Record.{the_type}
-use Rattle.record.proofs.Formed.{formed, has_modulus}
 use Rattle.wrapper.specs.Taken.{stepped}
 use Rattle.wrapper.specs.declared.Arrived.{Arrived}
 use Rattle.wrapper.specs.declared.Plan.{Plan}
-use Rattle.wrapper.specs.declared.Stepped.{Stepped}
 use Rattle.table.specs.Table.{blank, record_at}
 use Rattle.sending.specs.Sent.{reply_of}
 use Rattle.carry.specs.Carried.{delivered_by, no_deliveries, listed}
@@ -36,8 +34,8 @@ use Rattle.member.specs.declared.Messaged.{Messaged}
 -- the answers of the calls that carry it out
 pub plan_done : (ts : List Record) (held : List ℕ) (i : ℕ) (w : Arrived) (c : List ℕ) (p : Plan) (all : Deliveries) (t : List Record) (k : ℕ)
     → all ≡ listed no_deliveries (delivered_by held i w c p) → t ≡ set ts i p.after → k ≡ length (reply_of p.after.terms p.reply)
-    → ◌≡◌ {A = Messaged}
-    (record { table = t; given = given.Wrapped i p.fate p.thrown p.reply; deliveries = all.each; count = all.count; reply = k })
+    → ◌≡◌ {A = Result Messaged Refusal}
+    (Ok (record { table = t; given = given.Wrapped i p.fate p.thrown p.reply; deliveries = all.each; count = all.count; reply = k }))
     (messaged (plan_outcome ts held i w c p))
 unfolding plan_outcome
 plan_done ts held i w c p all t k e f g = rw (e, f, g)
@@ -64,19 +62,15 @@ four_places ts vs p i h =
 
 -- ---- the step of a used, well-formed record
 
-module _ (r : Record) (used : r.used ≡ true) (well : well_formed r ≡ true) where
-  pub modulus_there : 0 < r.terms.modulus
-  modulus_there = has_modulus (formed r well used)
+pub step_fits : (r : Record) → r.used ≡ true → well_formed r ≡ true → length r.places ≡ 4 → (w : Arrived) → w.len ≤ most_contents
+    → (s : Result Plan Refusal) (p : Plan) → s ≡ stepped r w → s ≡ Ok p → Fits p
+step_fits r used well four w fits s p e z = stepped_fits r w used well four fits p (sym e ∙ z)
 
-  pub step_fits : length r.places ≡ 4 → (w : Arrived) → w.len ≤ most_contents → (s : Stepped) → s ≡ stepped r w → s.number ≡ 0
-      → Fits s.plan
-  step_fits four w fits s e z = rw e (stepped_fits r w used well four fits (rw e at z))
-
-module _ (ts : List Record) (held : List ℕ) (i : ℕ) (w : Arrived) (c : List ℕ) (s : Stepped) (e : s ≡ stepped (record_at ts i) w) where
-  pub step_refused : s.number ≢ 0 → wrapper_outcome ts held i w c ≡ refused_message ts held s.number
+module _ (ts : List Record) (held : List ℕ) (i : ℕ) (w : Arrived) (c : List ℕ) (s : Result Plan Refusal) (e : s ≡ stepped (record_at ts i) w) where
+  pub step_refused : (why : Refusal) → s ≡ Err why → wrapper_outcome ts held i w c ≡ refused_message ts held why
   unfolding wrapper_outcome
-  step_refused n = rw (← e, ne_eqb s.number 0 n)
+  step_refused why n = rw (← e, n)
 
-  pub step_taken : s.number ≡ 0 → wrapper_outcome ts held i w c ≡ plan_outcome ts held i w c s.plan
+  pub step_taken : (p : Plan) → s ≡ Ok p → wrapper_outcome ts held i w c ≡ plan_outcome ts held i w c p
   unfolding wrapper_outcome
-  step_taken z = rw (← e, z)
+  step_taken p z = rw (← e, z)

@@ -1,8 +1,10 @@
 -- An elapsed call (01, "Refusal numbers" and "One channel", elapsed): what ms milliseconds do to each record of the table ts by itself, and then what
 -- is written into the cells.
-use Rattle.std.specs.Prelude.{ℕ, ◌+◌, ◌*◌, cond, not, List, [], ◌∷◌, map, ◌≡◌, length, ltb}
+use Rattle.std.specs.Prelude.{ℕ, ◌+◌, ◌*◌, ⊤, cond, not, List, [], ◌∷◌, Result, Ok, Err, map, ◌≡◌, length, ltb}
 use Rattle.octets.specs.Octets.{splice}
 use Rattle.record.specs.declared.Record.{Record}
+use Rattle.refusal.specs.declared.Refusal.{Refusal}
+use Rattle.refusal.specs.declared.Refusal.TheVariants as refusal
 use Rattle.gap.specs.Elapsed.{gives, elapsed_of}
 use Rattle.gap.specs.declared.Event.TheVariants as event
 use Rattle.gap.specs.declared.Elapsed.{Elapsed}
@@ -18,24 +20,24 @@ longest = 1000
 
 -- ---- as values
 
--- the number of a refusal, or 0; and each record after the call with what it sends
+-- whether the call is refused, and each record after it with what it sends
 pub record Passing : Type 0 where
-  pub number : ℕ
+  pub given : Result ⊤ Refusal
   pub each : List Elapsed
 
 -- refused: every record stands, and nothing is sent
-abbrev pub refused_elapsed : List Record → ℕ → Passing
-refused_elapsed ts number = record { number = number; each = map (λ r. gives r event.Nothing) ts }
+abbrev pub refused_elapsed : List Record → Refusal → Passing
+refused_elapsed ts why = record { given = Err why; each = map (λ r. gives r event.Nothing) ts }
 
 abbrev pub passing : List Record → ℕ → Passing
-passing ts ms = record { number = 0; each = map (λ r. elapsed_of r ms) ts }
+passing ts ms = record { given = Ok tt; each = map (λ r. elapsed_of r ms) ts }
 
 -- the refusals in their order: 1, 2, 3. Of the cells only their size plays a part
 unfoldable pub elapsed_outcome : List Record → ℕ → ℕ → Passing
 elapsed_outcome ts cells ms =
-    cond (not (elapsed_sizes (length ts) cells)) (refused_elapsed ts 1)
-    (cond (not (table_formed ts)) (refused_elapsed ts 2)
-    (cond (ltb longest ms) (refused_elapsed ts 3)
+    cond (not (elapsed_sizes (length ts) cells)) (refused_elapsed ts refusal.WrongSize)
+    (cond (not (table_formed ts)) (refused_elapsed ts refusal.WrongTable)
+    (cond (ltb longest ms) (refused_elapsed ts refusal.TooMuchTime)
     (passing ts ms)))
 
 -- ---- written into the cells
@@ -46,8 +48,17 @@ sent_by e = event_of e.after.terms e.event
 abbrev pub cell_of : Elapsed → Cell
 cell_of e = record { event = e.event; len = length (sent_by e) }
 
-abbrev pub passed : Passing → Passed
-passed p = record { table = map (λ e. e.after) p.each; number = p.number; cells = map cell_of p.each }
+-- the table after the call
+abbrev pub passed_table : Passing → List Record
+passed_table p = map (λ e. e.after) p.each
+
+-- what is answered where this is given
+abbrev pub passed_as : Passing → Result ⊤ Refusal → Result Passed Refusal
+passed_as p (Ok done) = Ok (record { table = passed_table p; cells = map cell_of p.each })
+passed_as p (Err why) = Err why
+
+abbrev pub passed : Passing → Result Passed Refusal
+passed p = passed_as p p.given
 
 -- records from number i on, each into its cell of 64 octets
 unfoldable pub cells_from : ℕ → List Elapsed → List ℕ → List ℕ
@@ -61,7 +72,7 @@ cells_after p room = cells_from 0 p.each room
 
 -- the answer, and what the cells hold
 pub record ElapsedEnds : Type 0 where
-  pub answer : Passed
+  pub answer : Result Passed Refusal
   pub cells : List ℕ
 
 -- what `p` leaves, where `cells` lay in them before

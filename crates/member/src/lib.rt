@@ -10,18 +10,15 @@ ghost use Rattle.member.specs.Elapsing.{ElapsedAllows};
 ghost use Rattle.member.specs.Leaving.{LeaveAllows};
 
 use carry::Delivery;
+pub use carry::{DELIVER, HELD};
 use gap::Event;
 use joining::Decision;
 use record::Record;
-use table::Found;
+use refusal::Refusal;
 use wrapper::{Fate, Reply};
 
-// The sizes of what is lent (01, "Room").
-pub const HELD: usize = 46528;
-
-pub const DELIVER: usize = 7270;
-
-pub const REPLY: usize = 64;
+// The sizes of what is lent (01, "Room"), beside `carry`'s.
+pub const REPLY: usize = sending::ROOM;
 
 pub const CELLS: usize = 512;
 
@@ -30,13 +27,12 @@ const CID: usize = 16;
 // The most that may pass in one call, in milliseconds.
 const LONGEST: u32 = 1000;
 
-// What a message call gives: a refusal; a Join's decision, and which record its channel now has; or which record a wrapper moved, what became of it,
-// how many held ones were thrown out and what is replied.
+// What a message call gives: a Join's decision, and which record its channel now has; or which record a wrapper moved, what became of it, how many held
+// ones were thrown out and what is replied.
 #[derive(Clone, Copy)]
 pub enum Given {
-    Refused(u8),
     Joined {
-        at: Found,
+        at: Option<usize>,
         decision: Decision,
     },
     Wrapped {
@@ -64,19 +60,17 @@ pub struct Cell {
     pub len: usize,
 }
 
-// The answer of an elapsed call: the number of a refusal, or 0.
+// The answer of an elapsed call.
 #[derive(Clone, Copy)]
 pub struct Passed {
     pub table: [Record; 8],
-    pub number: u8,
     pub cells: [Cell; 8],
 }
 
-// The answer of a leave call: the number of a refusal or 0, which record was left (0 after a refusal), and how many octets stand in the reply room.
+// The answer of a leave call: which record was left, and how many octets stand in the reply room.
 #[derive(Clone, Copy)]
 pub struct Left {
     pub table: [Record; 8],
-    pub number: u8,
     pub at: usize,
     pub reply: usize,
 }
@@ -92,57 +86,53 @@ pub fn message(
     vector: u8,
     body: &[u8],
     reciprocal: u16,
-) -> Messaged
+) -> Result<Messaged, Refusal>
     ensures { MessageAllows table held.old deliver.old reply.old sender.now ours.now vector body.now reciprocal
         (record { answer = result; held = held.new; deliver = deliver.new; reply = reply.new }) }
 {
-    if !messages::message_sizes(
-        held.len(),
-        deliver.len(),
-        reply.len(),
-        sender.len(),
-        ours.len(),
-    ) {
-        return messages::refuse(table, 1);
-    }
+    let held = held.as_mut_array().ok_or(Refusal::WrongSize)?;
+    let deliver = deliver.as_mut_array().ok_or(Refusal::WrongSize)?;
+    let reply = reply.as_mut_array().ok_or(Refusal::WrongSize)?;
+    let sender: &[u8; CID] = sender.as_array().ok_or(Refusal::WrongSize)?;
+    let ours: &[u8; CID] = ours.as_array().ok_or(Refusal::WrongSize)?;
     if !table::is_formed(table) {
-        return messages::refuse(table, 2);
+        return Err(Refusal::WrongTable);
     }
-    let from = asking::cid_of(sender);
-    let own = asking::cid_of(ours);
+    let from = message::cid_at(sender, 0);
+    let own = message::cid_at(ours, 0);
     messages::take_message(
         table, held, deliver, reply, from, own, vector, body, reciprocal,
     )
 }
 
 // `ms` milliseconds pass.
-pub fn elapsed(table: [Record; 8], cells: &mut [u8], ms: u32) -> Passed
+pub fn elapsed(table: [Record; 8], cells: &mut [u8], ms: u32) -> Result<Passed, Refusal>
     ensures { ElapsedAllows table cells.old ms (record { answer = result; cells = cells.new }) }
 {
-    if cells.len() != CELLS {
-        return elapsing::refuse_elapsed(table, 1);
-    }
+    let cells = cells.as_mut_array().ok_or(Refusal::WrongSize)?;
     if !table::is_formed(table) {
-        return elapsing::refuse_elapsed(table, 2);
+        return Err(Refusal::WrongTable);
     }
     if LONGEST < ms {
-        return elapsing::refuse_elapsed(table, 3);
+        return Err(Refusal::TooMuchTime);
     }
-    elapsing::pass_all(table, cells, ms)
+    Ok(elapsing::pass_all(table, cells, ms))
 }
 
 // A request to leave the channel of this owner and number.
-pub fn leave(table: [Record; 8], reply: &mut [u8], owner: &[u8], channel: u16, reason: u8) -> Left
+pub fn leave(
+    table: [Record; 8],
+    reply: &mut [u8],
+    owner: &[u8],
+    channel: u16,
+    reason: u8,
+) -> Result<Left, Refusal>
     ensures { LeaveAllows table reply.old owner.now channel reason (record { answer = result; reply = reply.new }) }
 {
-    if reply.len() != REPLY {
-        return leaving::refuse_leave(table, 1);
-    }
-    if owner.len() != CID {
-        return leaving::refuse_leave(table, 1);
-    }
+    let reply = reply.as_mut_array().ok_or(Refusal::WrongSize)?;
+    let owner: &[u8; CID] = owner.as_array().ok_or(Refusal::WrongSize)?;
     if !table::is_formed(table) {
-        return leaving::refuse_leave(table, 2);
+        return Err(Refusal::WrongTable);
     }
-    leaving::take_leave(table, reply, asking::cid_of(owner), channel, reason)
+    leaving::take_leave(table, reply, message::cid_at(owner, 0), channel, reason)
 }

@@ -229,8 +229,9 @@ fn is_readable(vector: u8, body: &[u8]) -> bool
     }
 }
 
+// The CID that stands at `at`.
 #[tactic(auto, unfolding(crate::specs::Layouts::cid_at))]
-fn cid_at(s: &[u8], at: usize) -> Cid
+pub fn cid_at(s: &[u8], at: usize) -> Cid
     requires { at + 16 ≤ length s.now }
     ensures { result ≡ cid_at s.now at }
 {

@@ -8,42 +8,35 @@ use mathlib.Core.Bool.{true}
 use mathlib.Core.List.{List, [], ◌++◌, append-nil, append_assoc}
 use lib.ListN.{length, take, drop, length-append, length-drop}
 use lib.Seq.{take-length, drop-length, drop-drop}
+use Rattle.std.specs.Prelude.{Result, Ok, IsOk}
+use Rattle.refusal.specs.declared.Refusal.{Refusal}
 use Rattle.octets.specs.Octets.{splice}
 use Rattle.octets.proofs.Writes.{splice_splice}
 use Rattle.message.specs.declared.Message.{Message}
 use Rattle.writing.specs.Writing.{has_form, leaves, room_after}
 use Rattle.writing.specs.Allowed.{WriteEnds, WriteMessageAllows}
-use Rattle.writing.specs.declared.Wrote.{Wrote}
-use Rattle.writing.specs.declared.Wrote.TheVariants.{Octets, NoForm, NoRoom, ContentsOver}
 use Rattle.writing.proofs.Forms.{carried_within, contents_length}
 use Rattle.writing.proofs.Answers.{Answer, whole, answer_is}
 use Rattle.sending.specs.Sent.{Put, sent_of}
 
-count : Wrote → ℕ
-count (Octets n) = n
-count NoForm = 0
-count NoRoom = 0
-count ContentsOver = 0
-
 -- w and s are what `write_message` answers and leaves
-module _ (m : Message) (r s : List ℕ) (w : Wrote) (asked : (has_form m ≡ true) × (length (sent_of m) ≤ length r)) (e : WriteMessageAllows m [] r (record { answer = w; room = s })) where
-  all_fits : Answer m [] r (Octets (length (sent_of m)))
+module _ (m : Message) (r s : List ℕ) (w : Result ℕ Refusal) (asked : (has_form m ≡ true) × (length (sent_of m) ≤ length r)) (e : WriteMessageAllows m [] r (record { answer = w; room = s })) where
+  all_fits : Answer m [] r (Ok (length (sent_of m)))
   all_fits = whole asked.0 asked.1 (omega (arith, contents_length m [], carried_within m 0 _ refl))
 
-  answered : w ≡ Octets (length (sent_of m))
+  answered : w ≡ Ok (length (sent_of m))
   answered = ap (λ (n : WriteEnds). n.answer) e ∙ answer_is m [] r all_fits
 
-  -- so a number that is answered is the message's length
-  pub all_written : (n : ℕ) → w ≡ Octets n → Put (sent_of m) n r s
-  unfolding count room_after
-  all_written n g = (
-    ap count (sym g ∙ answered),
-    ap (λ (n : WriteEnds). n.room) e ∙ ap (λ (x : Wrote). leaves x m [] r) (answer_is m [] r all_fits),
-  )
+  -- it is never refused
+  pub is_written : IsOk w
+  is_written = rw answered refl
 
-  -- and nothing else is
-  pub never_refused : ((n : ℕ) → w ≡ Octets n → ⊥) → ⊥
-  never_refused h = h _ answered
+  -- and the number that is answered is the message's length
+  pub all_written : (n : ℕ) → w ≡ Ok n → Put (sent_of m) n r s
+  unfolding room_after
+  all_written n g =
+      let k : ◌≡◌ {A = Result ℕ Refusal} (Ok n) (Ok (length (sent_of m))) = sym g ∙ answered in
+      (cc, ap (λ (n : WriteEnds). n.room) e ∙ ap (λ (x : Result ℕ Refusal). leaves x m [] r) (answer_is m [] r all_fits))
 
 -- octets zs put into what is behind the first n of s, and that put back
 behind : (s zs : List ℕ) (n : ℕ)

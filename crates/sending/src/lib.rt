@@ -12,9 +12,8 @@ use joining::Decision;
 use message::{Cid, Join, Message};
 use record::Terms;
 use wrapper::Reply;
-use writing::Wrote;
 
-// The octets of a reply room, and of the cell that a record sends from as time passes (01, "Room").
+// The octets of a reply room.
 pub const ROOM: usize = 64;
 
 // Writes a message that has a form and fits at the front of a room, and answers how many octets it takes.
@@ -22,14 +21,12 @@ fn put_message(room: &mut [u8], m: Message) -> usize
     requires { (has_form m ≡ true) × (length (sent_of m) ≤ length room.old) }
     ensures { Put (sent_of m) result room.old room.new }
 {
-    let Wrote::Octets(n) = writing::write_message(m, b"", room) else {
-        return 0;
-    };
-    n
+    writing::write_message(m, b"", room).unwrap()
 }
 
 // A Leaving.
-pub fn put_leaving(room: &mut [u8; ROOM], terms: Terms, reliable: Reliable, reason: u8) -> usize
+pub fn put_leaving(room: &mut [u8], terms: Terms, reliable: Reliable, reason: u8) -> usize
+    requires { 64 ≤ length room.old }
     ensures { Put (sent_of (departure terms reliable reason)) result room.old room.new }
 {
     put_message(room, joining::departure_of(terms, reliable, reason))
@@ -52,12 +49,13 @@ pub fn put_reply(room: &mut [u8; ROOM], terms: Terms, reply: Reply) -> usize
     match reply {
         Reply::Nothing => 0,
         Reply::Ack(reliable) => put_message(room, Message::Ack(reliable)),
-        Reply::Leaving(reason, reliable) => put_leaving(room, terms, reliable, reason),
+        Reply::Leaving(reason, reliable) => put_leaving(room, terms, reliable, reason.into()),
     }
 }
 
 // What a channel sends as time passes.
-pub fn put_event(room: &mut [u8; ROOM], terms: Terms, event: Event) -> usize
+pub fn put_event(room: &mut [u8], terms: Terms, event: Event) -> usize
+    requires { 64 ≤ length room.old }
     ensures { Put (event_of terms event) result room.old room.new }
 {
     match event {
@@ -68,7 +66,7 @@ pub fn put_event(room: &mut [u8; ROOM], terms: Terms, event: Event) -> usize
             last,
             outbound: _,
         } => put_message(room, joining::nak_of(terms, reliable, first, last)),
-        Event::Leaving(reason, reliable) => put_leaving(room, terms, reliable, reason),
+        Event::Leaving(reason, reliable) => put_leaving(room, terms, reliable, reason.into()),
     }
 }
 
@@ -83,7 +81,10 @@ pub fn put_join_reply(
     ensures { Put (join_reply_of owner j reciprocal decision) result room.old room.new }
 {
     match decision {
-        Decision::Refuse(reason) => put_message(room, joining::join_refuse_of(owner, j, reason)),
+        Decision::Refuse(reason) => put_message(
+            room,
+            joining::join_refuse_of(owner, j, reason.into()),
+        ),
         Decision::Again {
             reliable,
             reciprocal: kept,

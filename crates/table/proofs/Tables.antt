@@ -187,9 +187,9 @@ module _ (ts : List Record) (i : ℕ) (r : Record) where
 
 -- ---- the search of a well-formed table
 
-pub found_formed : {ts : List Record} → TableFormed ts → (o : Cid) (c i : ℕ) → named o c (record_at ts i) ≡ true → found 0 o c ts ≡ Some i
-found_formed {ts} f o c i n = by (found 0 o c ts) refl
+pub found_formed : {ts : List Record} → TableFormed ts → (o : Cid) (c i : ℕ) → named o c (record_at ts i) ≡ true → found o c ts ≡ Some i
+found_formed {ts} f o c i n = by (found o c ts) refl
   where
-    by : (g : Option ℕ) → found 0 o c ts ≡ g → g ≡ Some i
+    by : (g : Option ℕ) → found o c ts ≡ g → g ≡ Some i
     by (Some j) e = ap Some (f.differ o c j i (found_at_lem o c ts j e).1 n)
     by None e = absurd (false≢true (sym (found_nowhere o c ts e i) ∙ n))

@@ -1,8 +1,7 @@
 -- The table of eight records (01, "Room", "Refusal numbers" and the end of "One channel"): which record has an owner and channel, which one is
 -- free, and when the whole table is well formed.
-use Rattle.std.specs.Prelude.{ℕ, Bool, true, false, not, ◌&&◌, List, [], ◌∷◌, Option, Some, None, get_or, replicate, eqb}
+use Rattle.std.specs.Prelude.{ℕ, Bool, true, false, not, ◌&&◌, List, [], ◌∷◌, Option, position, get_or, replicate, eqb}
 use Rattle.message.specs.declared.Cid.{Cid}
-use Rattle.record.specs.Lowest.{lowest}
 use Rattle.record.specs.Places.{no_place}
 use Rattle.record.specs.WellFormed.{well_formed}
 use Rattle.record.specs.declared.Gap.TheVariants as gap
@@ -18,16 +17,16 @@ same a b = eqb a.high b.high && eqb a.low b.low
 unfoldable pub named : Cid → ℕ → Record → Bool
 named owner channel r = r.used && same r.terms.owner owner && eqb r.terms.channel channel
 
--- the record of this owner and channel, of records that are counted from i on
-unfoldable pub found : ℕ → Cid → ℕ → List Record → Option ℕ
-found i owner channel rs = lowest (named owner channel) Some None i rs
+-- the record of this owner and channel
+unfoldable pub found : Cid → ℕ → List Record → Option ℕ
+found owner channel rs = position (named owner channel) rs
 
 abbrev pub is_free : Record → Bool
 is_free r = not r.used
 
--- the lowest free one of records that are counted from i on
-unfoldable pub lowest_free : ℕ → List Record → Option ℕ
-lowest_free i rs = lowest is_free Some None i rs
+-- the lowest free record
+unfoldable pub lowest_free : List Record → Option ℕ
+lowest_free rs = position is_free rs
 
 -- if r is used, none of these records has its owner and channel
 unfoldable pub differs : Record → List Record → Bool

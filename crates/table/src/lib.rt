@@ -1,7 +1,7 @@
 // Eight records by value: which one has an owner and channel, which one is free, and whether the whole table is well formed.
 #![tactic(auto)]
 
-ghost use Rattle.std.specs.Prelude.{◌≡◌, ℕ, ◌<◌, Some};
+ghost use Rattle.std.specs.Prelude.{◌≡◌, ◌<◌, IfSome};
 ghost use Rattle.table.specs.Table.{named, found, lowest_free, differs, table_formed, free_table};
 
 use counter::{Reliable, Total};
@@ -53,26 +53,18 @@ pub fn is_named(r: Record, owner: Cid, channel: u16) -> bool
 
 // The record of this owner and channel.
 pub fn find(table: [Record; 8], owner: Cid, channel: u16) -> Option<usize>
-    ensures { (result ≡ found 0 owner channel table) × ((i : ℕ) → result ≡ Some i → i < 8) }
+    ensures first { result ≡ found owner channel table }
+    ensures within { IfSome result (λ i. i < 8) }
 {
-    for i in 0..8 {
-        if is_named(table[i], owner, channel) {
-            return Some(i);
-        }
-    }
-    None
+    record::lowest(&table, |r| is_named(*r, owner, channel))
 }
 
 // The lowest free record.
 pub fn find_free(table: [Record; 8]) -> Option<usize>
-    ensures { (result ≡ lowest_free 0 table) × ((i : ℕ) → result ≡ Some i → i < 8) }
+    ensures first { result ≡ lowest_free table }
+    ensures within { IfSome result (λ i. i < 8) }
 {
-    for i in 0..8 {
-        if !table[i].used {
-            return Some(i);
-        }
-    }
-    None
+    record::lowest(&table, |r| !r.used)
 }
 
 // Whether none of these records has the owner and channel of the used record r.
@@ -89,7 +81,7 @@ pub fn is_formed(table: [Record; 8]) -> bool
 {
     let mut left = &table[..];
     while let Some((r, later)) = left.split_first() {
-        if !record::is_well_formed(*r) || !is_apart(*r, later) {
+        if !r.is_well_formed() || !is_apart(*r, later) {
             return false;
         }
         left = later;

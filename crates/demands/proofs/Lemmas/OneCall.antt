@@ -94,13 +94,13 @@ module _ (i : ℕ) (owner : Cid) (channel : ℕ) (s : State) (right : Right s) (
   module _ (reply : ℕ) (sender : List ℕ) (name reason : ℕ) where
     -- a right table refuses nothing but sizes before it searches
     leave_comes : leave_outcome s.table reply sender name reason
-        ≡ cond (leave_sizes table_size reply (length sender)) (leave_for s.table reason (found 0 (cid_at sender 0) name s.table)) (refused_leave s.table refusal.WrongSize)
+        ≡ cond (leave_sizes table_size reply (length sender)) (leave_for s.table reason (found (cid_at sender 0) name s.table)) (refused_leave s.table refusal.WrongSize)
     unfolding leave_outcome
     leave_comes = rw (right.eight, right.formed) (by (leave_sizes table_size reply (length sender)))
       where
         by : (b : Bool)
-            → cond (not b) (refused_leave s.table refusal.WrongSize) (leave_for s.table reason (found 0 (cid_at sender 0) name s.table))
-            ≡ cond b (leave_for s.table reason (found 0 (cid_at sender 0) name s.table)) (refused_leave s.table refusal.WrongSize)
+            → cond (not b) (refused_leave s.table refusal.WrongSize) (leave_for s.table reason (found (cid_at sender 0) name s.table))
+            ≡ cond b (leave_for s.table reason (found (cid_at sender 0) name s.table)) (refused_leave s.table refusal.WrongSize)
         by true = refl
         by false = refl
 
@@ -130,14 +130,14 @@ module _ (i : ℕ) (owner : Cid) (channel : ℕ) (s : State) (right : Right s) (
         mine : (is_cid owner sender ≡ true) × (eqb name channel ≡ true)
         mine = (and-eq-true_iff (is_cid owner sender) (eqb name channel)).0 e
 
-        finds : found 0 (cid_at sender 0) name s.table ≡ Some i
+        finds : found (cid_at sender 0) name s.table ≡ Some i
         finds =
-            ap (λ (o : Cid). found 0 o name s.table) (sender_is owner sender mine.0)
-            ∙ ap (λ (c : ℕ). found 0 owner c s.table) (eqb-true name channel mine.1)
+            ap (λ (o : Cid). found o name s.table) (sender_is owner sender mine.0)
+            ∙ ap (λ (c : ℕ). found owner c s.table) (eqb-true name channel mine.1)
             ∙ it.finds
 
         by : (b : Bool)
-            → view_at i (leave_came s (cond b (leave_for s.table reason (found 0 (cid_at sender 0) name s.table)) (refused_leave s.table refusal.WrongSize)))
+            → view_at i (leave_came s (cond b (leave_for s.table reason (found (cid_at sender 0) name s.table)) (refused_leave s.table refusal.WrongSize)))
             ≡ cond b (leave_on (channel_at i s) reason) (stays (channel_at i s) (refused refusal.WrongSize))
         by true = ap (λ (f : Option ℕ). view_at i (leave_came s (leave_for s.table reason f))) finds ∙ leaves_own
         by false = refl
@@ -153,7 +153,7 @@ module _ (i : ℕ) (owner : Cid) (channel : ℕ) (s : State) (right : Right s) (
 
     -- a call that meets record i is the channel's own
     leave_not_met : length sender ≡ cid_size → own owner channel (calls.leave reply sender name reason) ≡ false
-        → found 0 (cid_at sender 0) name s.table ≢ Some i
+        → found (cid_at sender 0) name s.table ≢ Some i
     unfolding own
     leave_not_met sized other f =
         let m = meets i owner channel s right has (cid_at sender 0) name f in
@@ -167,15 +167,15 @@ module _ (i : ℕ) (owner : Cid) (channel : ℕ) (s : State) (right : Right s) (
         ap (λ (r : Record). record { at = r; held = slab i s.held })
         (ap (λ (p : Departing). record_at p.table i) leave_comes ∙ by (leave_sizes table_size reply (length sender)) refl)
       where
-        to : (f : Option ℕ) → found 0 (cid_at sender 0) name s.table ≡ f → length sender ≡ cid_size
+        to : (f : Option ℕ) → found (cid_at sender 0) name s.table ≡ f → length sender ≡ cid_size
             → record_at (leave_for s.table reason f).table i ≡ record_at s.table i
         to None f sized = refl
         to (Some k) f sized = leaves_other k (λ q. leave_not_met sized other (f ∙ ap Some q))
 
         by : (b : Bool) → leave_sizes table_size reply (length sender) ≡ b
-            → record_at (cond b (leave_for s.table reason (found 0 (cid_at sender 0) name s.table)) (refused_leave s.table refusal.WrongSize)).table i
+            → record_at (cond b (leave_for s.table reason (found (cid_at sender 0) name s.table)) (refused_leave s.table refusal.WrongSize)).table i
             ≡ record_at s.table i
-        by true e = to (found 0 (cid_at sender 0) name s.table) refl (leave_sizes_lem _ reply (length sender) e)
+        by true e = to (found (cid_at sender 0) name s.table) refl (leave_sizes_lem _ reply (length sender) e)
         by false e = refl
 
   -- ---- every call

@@ -179,10 +179,10 @@ module _ (i : ℕ) (owner : Cid) (channel : ℕ) (s : State) (right : Right s) (
 
   -- no answer to a Join changes a used record
   join_leaves : (o : Cid) (j : Join) (n : ℕ) (answer : Decision)
-      → record_at (table_after s.table o j n answer (lowest_free 0 s.table)) i ≡ record_at s.table i
-  join_leaves o j n = by (lowest_free 0 s.table) refl
+      → record_at (table_after s.table o j n answer (lowest_free s.table)) i ≡ record_at s.table i
+  join_leaves o j n = by (lowest_free s.table) refl
     where
-      by : (f : Option ℕ) → lowest_free 0 s.table ≡ f → (answer : Decision) → record_at (table_after s.table o j n answer f) i ≡ record_at s.table i
+      by : (f : Option ℕ) → lowest_free s.table ≡ f → (answer : Decision) → record_at (table_after s.table o j n answer f) i ≡ record_at s.table i
       by f e (decision.Refuse reason) = refl
       by f e (decision.Again r reciprocal) = refl
       by (Some k) e (decision.Make p) =
@@ -192,7 +192,7 @@ module _ (i : ℕ) (owner : Cid) (channel : ℕ) (s : State) (right : Right s) (
 
   -- a Join that is answered so leaves the channel and answers so
   join_done_lem : (o : Cid) (j : Join) (n : ℕ) (known : Option ℕ) (answer : Decision)
-      → view_at i (in_memory (join_done s.table s.held o j n known (lowest_free 0 s.table) answer))
+      → view_at i (in_memory (join_done s.table s.held o j n known (lowest_free s.table) answer))
       ≡ stays (channel_at i s) (joined answer (join_reply_of o j n answer))
   unfolding view_at channel_at
   join_done_lem o j n known answer =
@@ -206,13 +206,13 @@ module _ (i : ℕ) (owner : Cid) (channel : ℕ) (s : State) (right : Right s) (
       answer : Decision
       answer = decided j (Some (existing_of (record_at s.table i))) n true
 
-      met : found 0 owner j.channel s.table ≡ Some i
-      met = ap (λ (k : ℕ). found 0 owner k s.table) ch ∙ it.finds
+      met : found owner j.channel s.table ≡ Some i
+      met = ap (λ (k : ℕ). found owner k s.table) ch ∙ it.finds
 
-      decides : decided j (existing_at s.table (found 0 owner j.channel s.table)) n (is_some (lowest_free 0 s.table)) ≡ answer
+      decides : decided j (existing_at s.table (found owner j.channel s.table)) n (is_some (lowest_free s.table)) ≡ answer
       decides =
-          ap (λ (f : Option ℕ). decided j (existing_at s.table f) n (is_some (lowest_free 0 s.table))) met
-          ∙ decided_known j (record_at s.table i) n (is_some (lowest_free 0 s.table))
+          ap (λ (f : Option ℕ). decided j (existing_at s.table f) n (is_some (lowest_free s.table))) met
+          ∙ decided_known j (record_at s.table i) n (is_some (lowest_free s.table))
 
       by : (b : Bool)
           → view_at i (in_memory (asked_outcome s.table s.held owner n c (cond b (Ok (asked.Join j)) (Err refusal.NotForUs))))
@@ -220,9 +220,9 @@ module _ (i : ℕ) (owner : Cid) (channel : ℕ) (s : State) (right : Right s) (
       by true =
           ap
           (λ (a : Decision).
-          view_at i (in_memory (join_done s.table s.held owner j n (found 0 owner j.channel s.table) (lowest_free 0 s.table) a)))
+          view_at i (in_memory (join_done s.table s.held owner j n (found owner j.channel s.table) (lowest_free s.table) a)))
           decides
-          ∙ join_done_lem owner j n (found 0 owner j.channel s.table) answer
+          ∙ join_done_lem owner j n (found owner j.channel s.table) answer
       by false = refl
 
   -- a message that names the channel and comes from its owner
@@ -234,7 +234,7 @@ module _ (i : ℕ) (owner : Cid) (channel : ℕ) (s : State) (right : Right s) (
       ap (λ (a : Result Asked Refusal). view_at i (in_memory (asked_outcome s.table s.held owner n (contents d) a)))
       (asks_wrapper s.table owner (cid_at ours 0) v d readable w
       ∙ ap (λ (f : Option ℕ). wrapper_for f (eqb v reliable_wrapper) (wrapper_of d) (length (contents d)))
-      (ap (λ (k : ℕ). found 0 owner k s.table) c ∙ it.finds))
+      (ap (λ (k : ℕ). found owner k s.table) c ∙ it.finds))
       ∙ wrapper_own v d n
       ∙ sym (when (is_wrapper v) _ _ w)
   asked_own ours v d n (readable, inr (e, c)) =

@@ -37,7 +37,7 @@ use Rattle.demands.proofs.Lemmas.OneStep.{brought}
 pub record Carries (ts : List Record) (s : Cid) (v : ℕ) (d : List ℕ) (i : ℕ) : Type 0 where
   pub readable : readable v d ≡ true
   pub wrapper : is_wrapper v ≡ true
-  pub finds : found 0 s (wrapper_of d).channel ts ≡ Some i
+  pub finds : found s (wrapper_of d).channel ts ≡ Some i
   pub within : i < length ts
   pub used : (record_at ts i).used ≡ true
   pub most : length (contents d) ≤ most_contents
@@ -56,7 +56,7 @@ module _ (ts : List Record) (held : List ℕ) (deliver reply : ℕ) (sender ours
       (plans : Sized → (i : ℕ) → Carries ts s v d i
       → P (plan_outcome ts held i (brought v d) (contents d) (taken (record_at ts i) (brought v d))))
     where
-      wrapper_case : Sized → readable v d ≡ true → is_wrapper v ≡ true → (f : Option ℕ) → found 0 s (wrapper_of d).channel ts ≡ f
+      wrapper_case : Sized → readable v d ≡ true → is_wrapper v ≡ true → (f : Option ℕ) → found s (wrapper_of d).channel ts ≡ f
           → P (asked_outcome ts held s n (contents d) (wrapper_for f (eqb v reliable_wrapper) (wrapper_of d) (length (contents d))))
       unfolding wrapper_outcome stepped
       wrapper_case sized r w None e = refuses refusal.NoRecord
@@ -90,7 +90,7 @@ module _ (ts : List Record) (held : List ℕ) (deliver reply : ℕ) (sender ours
       asked_case sized (asks.joins r e) =
           either (λ (a : Result Asked Refusal). P (asked_outcome ts held s n (contents d) a)) (same (join_of d).cid (cid_at ours 0)) _ _ joins
           (refuses refusal.NotForUs)
-      asked_case sized (asks.wraps r w) = wrapper_case sized r w (found 0 s (wrapper_of d).channel ts) refl
+      asked_case sized (asks.wraps r w) = wrapper_case sized r w (found s (wrapper_of d).channel ts) refl
 
       pub message_cases : P (message_outcome ts held deliver reply sender ours v d n)
       unfolding message_outcome

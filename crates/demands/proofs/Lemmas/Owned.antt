@@ -84,7 +84,7 @@ module _ (i : ℕ) (owner : Cid) (channel : ℕ) (s : State) (right : Right s) (
     pub used : (record_at s.table i).used ≡ true
     pub formed : TableFormed s.table
     pub four : length (record_at s.table i).places ≡ 4
-    pub finds : found 0 owner channel s.table ≡ Some i
+    pub finds : found owner channel s.table ≡ Some i
 
   pub it_has : Has
   it_has =
@@ -106,7 +106,7 @@ module _ (i : ℕ) (owner : Cid) (channel : ℕ) (s : State) (right : Right s) (
       below = by (ltb i 8) refl
 
   -- whoever meets record i names this owner and this channel
-  pub meets : (o : Cid) (c : ℕ) → found 0 o c s.table ≡ Some i → (o ≡ owner) × (c ≡ channel)
+  pub meets : (o : Cid) (c : ℕ) → found o c s.table ≡ Some i → (o ≡ owner) × (c ≡ channel)
   meets o c e =
       let w = named_is o c (record_at s.table i) (found_at_lem o c s.table i e).1 in
       let m = named_is owner channel (record_at s.table i) has in

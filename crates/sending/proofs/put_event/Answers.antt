@@ -19,4 +19,4 @@ returns-in-Nak c = search (c.in-Nak.is, same_put _ _ _ _ _ c.put_message.ensures
 
 pub returns-in-Leaving : goal.returns-in-Leaving
 unfolding event_of
-returns-in-Leaving c = search (c.in-Leaving.is, c.put_leaving.ensures)
+returns-in-Leaving c = search (c.in-Leaving.is, rw c.into.ensures at c.put_leaving.ensures)

@@ -13,7 +13,7 @@ put_message-requires-in-Again c = accept_fits _ _ (search rules) _ _ _ _ c.accep
 
 pub returns-in-Refuse : goal.returns-in-Refuse
 unfolding join_reply_of
-returns-in-Refuse c = search (c.in-Refuse.is, same_put _ _ _ _ _ c.put_message.ensures c.join_refuse_of.ensures)
+returns-in-Refuse c = let e = rw c.into.ensures at c.join_refuse_of.ensures in search (c.in-Refuse.is, same_put _ _ _ _ _ c.put_message.ensures e)
 
 pub returns-in-Again : goal.returns-in-Again
 unfolding join_reply_of

@@ -18,4 +18,4 @@ returns-in-Ack c = search (c.in-Ack.is, c.put_message.ensures)
 
 pub returns-in-Leaving : goal.returns-in-Leaving
 unfolding reply_of
-returns-in-Leaving c = search (c.in-Leaving.is, c.put_leaving.ensures)
+returns-in-Leaving c = search (c.in-Leaving.is, rw c.into.ensures at c.put_leaving.ensures)

@@ -4,6 +4,4 @@ use Rattle.member.proofs.Passing.{one_passed}
 use Rattle.member.proofs.elapsing.pass_one.Goals as goal
 
 pub returns : goal.returns
-returns c =
-    let a = c.args in
-    one_passed a.before a.i a.ms _ _ _ _ (search rules) (search rules) c.elapsed_step-step.ensures c.put_event-len.ensures
+returns c = one_passed c.args.before c.args.i c.args.ms _ _ _ _ (search rules) (search rules) c.elapsed_step-step.ensures c.put_event-len.ensures

@@ -3,4 +3,4 @@ use Rattle.member.proofs.Departing.{departed}
 use Rattle.member.proofs.leaving.depart.Goals as goal
 
 pub returns : goal.returns
-returns c = departed _ _ _ _ _ _ _ _ c.free_record.ensures c.with_record.ensures c.put_leaving-n.ensures
+returns c = departed _ _ _ _ _ _ _ c.freed.ensures c.put_leaving.ensures
