@@ -43,7 +43,8 @@ pub enum Given {
     },
 }
 
-// The answer of a message call. The first `count` of `deliveries` are what was delivered, in order; `reply` octets stand in the reply room.
+// The answer of a message call. The first `count` of `deliveries` are what was delivered, in order: an array with its count beside it, since the library
+// has no heap. `reply` octets stand in the reply room.
 #[derive(Clone, Copy)]
 pub struct Messaged {
     pub table: [Record; 8],

@@ -80,7 +80,8 @@ fn take_join(
     }
 }
 
-// The plan of the record `at`, carried out.
+// The plan of the record `at`, carried out. The three lent pieces stay parameters: their sizes are their types', and a struct that holds three `&mut` would
+// owe a clause for each that it keeps its reference.
 fn carried(
     table: [Record; 8],
     held: &mut [u8; HELD],

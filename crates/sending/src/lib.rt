@@ -24,7 +24,8 @@ fn put_message(room: &mut [u8], m: Message) -> usize
     writing::write_message(m, b"", room).unwrap()
 }
 
-// A Leaving.
+// A Leaving. Here and in `put_event` the room is a slice and no array: a cell is a part of the octets of all cells, and of a part that is taken as an array
+// the proof of what is written did not close.
 pub fn put_leaving(room: &mut [u8], terms: Terms, reliable: Reliable, reason: u8) -> usize
     requires { 64 ≤ length room.old }
     ensures { Put (sent_of (departure terms reliable reason)) result room.old room.new }
