@@ -5,12 +5,12 @@ use Prim.Native.Nat.{ℕ, ◌*◌}
 use Prim.{tt}
 use mathlib.Core.List.{List, [], ◌∷◌}
 use mathlib.Core.Logic.{◌≢◌}
-use mathlib.Core.Path.{◌≡◌, refl, sym, subst, ◌∙◌}
+use mathlib.Core.Path.{◌≡◌, refl, sym, ap, subst, ◌∙◌}
 use mathlib.Core.Bool.{true}
 use native.Mathlib.Omega.{arith}
 use lib.ListN.{length, replicate, get_or}
 use lib.Dec.{lit<}
-use Rattle.std.specs.Prelude.{Option, Some}
+use Rattle.std.specs.Prelude.{Option, Some, Ok}
 use Rattle.octets.specs.Octets.{part, number}
 use Rattle.counter.specs.Distance.{distance}
 use Rattle.message.specs.Lengths.{reliable_wrapper, look, length_of}
@@ -23,12 +23,16 @@ use Rattle.wrapper.specs.Hold.{next_one, placed}
 use Rattle.wrapper.specs.Release.{next_held, release_at, release_from, released}
 use Rattle.wrapper.specs.Settle.{gapped, asked, spared, acknowledged, settled}
 use Rattle.wrapper.specs.Taken.{taken, stepped}
+use Rattle.wrapper.specs.declared.Fate.TheVariants as fate
+use Rattle.wrapper.specs.declared.Reply.TheVariants as reply
 use Rattle.table.specs.Table.{found, named, table_formed, free_table, same}
 use Rattle.table.proofs.Tables.{free_table_formed}
 use Rattle.carry.specs.Carried.{from_place, delivered_by, Delivered}
 use Rattle.asking.specs.Asking.{wrapper_asks, asked_of}
 use Rattle.member.specs.Sizes.{deliver_size, reply_size, message_sizes, elapsed_sizes, leave_sizes, held_size}
-use Rattle.member.specs.Messages.{message_outcome, message_end, Outcome, deliver_after, wrapper_outcome, plan_outcome}
+use Rattle.member.specs.Messages.{message_outcome, messaged_as, messaged, message_end, Outcome, deliver_after, wrapper_outcome, plan_outcome}
+use Rattle.member.specs.declared.Given.TheVariants as given
+use Rattle.member.specs.declared.Messaged.{Messaged}
 use Rattle.member.specs.Elapsing.{elapsed_outcome, passed_table, elapsed_end}
 use Rattle.member.specs.Leaving.{leave_outcome, leave_end}
 use Rattle.demands.specs.Refusals.{first_number, message_checks, elapsed_checks, leave_checks, RefusedBy, message_stands, elapsed_stands, leave_stands}
@@ -38,7 +42,7 @@ use Rattle.demands.proofs.Frame.{message_frame}
 use Rattle.demands.proofs.Lemmas.Sample as sample
 use Rattle.demands.proofs.InTurn.{makes_with}
 use Rattle.demands.specs.Order.{as_sent}
-use Rattle.demands.proofs.RoomsSay.{deliveries_stand}
+use Rattle.demands.proofs.RoomsSay.{deliveries_stand, deliveries_counted}
 use Rattle.demands.specs.Calls as calls
 use Rattle.demands.specs.Calls.{table_step, Right}
 use Rattle.demands.proofs.TableStays.{table_stays}
@@ -113,6 +117,22 @@ unfolding message_outcome message_sizes asked_of read_message readable length_of
     wrapper_outcome plan_outcome stepped judged judged_by consistent distance taken heard farther placed next_one released release_from release_at next_held
     settled gapped closed acknowledged asked spared delivered_by
 delivers_two held l = rw (l, (sample.joined_one).right.formed)
+
+-- it is accepted, and the answer counts two
+given_two : (held : List ℕ) → length held ≡ held_size → (brings held).given ≡ Ok (given.Wrapped 2 fate.Delivered 0 reply.Nothing)
+unfolding message_outcome message_sizes asked_of read_message readable length_of look message_of wrapper_of wrapper_asks found named same cid_at number
+    wrapper_outcome plan_outcome stepped judged judged_by consistent distance taken heard farther placed next_one released release_from release_at next_held
+    settled gapped closed acknowledged asked spared
+given_two held l = rw (l, (sample.joined_one).right.formed)
+
+answers_two : (a : Messaged) × (messaged (brings (sample.held_of 0)) ≡ Ok a)
+answers_two = (_, ap (messaged_as (brings (sample.held_of 0))) (given_two (sample.held_of 0) (sample.held_size_lem 0)))
+
+counts_two : (answers_two.0).count ≡ 2
+counts_two =
+    deliveries_counted (sample.state_of sample.free 0) (sample.joined_one).right deliver_size reply_size (sample.cid 1 2) (replicate 16 0) reliable_wrapper
+    (sample.wrapper_data 11 (4 ∷ 5 ∷ 6 ∷ [])) 0 answers_two.0 answers_two.1
+    ∙ ap length (delivers_two (sample.held_of 0) (sample.held_size_lem 0))
 
 -- the contents of 11 are read in the first cell, whatever lay there
 first_cell : (room : List ℕ) → length room ≡ deliver_size → part (deliver_after (brings (sample.held_of 0)) room) (0 * most_contents) 3 ≡ 4 ∷ 5 ∷ 6 ∷ []

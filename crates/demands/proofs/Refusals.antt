@@ -1,6 +1,6 @@
 -- Demand 1 of the order, its refusals. Each call over the table gives the number of the first condition, in that call's order, that holds (`message_number`,
 -- `elapsed_number`, `leave_number`); so a number is given exactly if its condition holds and no earlier one, and a call is accepted exactly if none holds
--- (`message_refused`, `message_accepted` and the like for the other two). A refusal leaves the table and every lent octet, and its answer is the number alone
+-- (`message_refused`, `message_accepted` and the like for the other two). A refusal of that number is the whole answer, and the table and every lent octet are as they were
 -- (`message_leaves`, `elapsed_leaves`, `leave_leaves`). Each condition stands by itself under the words of 01's table. Assumes nothing.
 use Prim.Native.Nat.{ℕ}
 use mathlib.Core.Logic.{◌↔◌}

@@ -23,6 +23,7 @@ use Rattle.message.specs.declared.Message.TheVariants as message
 use Rattle.refusal.specs.declared.Refusal.TheVariants as refusal
 use Rattle.writing.specs.Fields.{cid_octets, membership_octets, wrapper_octets, parameters_octets, address_octets, join_octets, fields_of}
 use Rattle.writing.specs.Writing.{vector_of, address_of as addressType, has_form, carried_of, contents_of}
+use Rattle.demands.specs.Runs.{Each, none, more}
 
 -- ---- parts of data
 
@@ -56,21 +57,16 @@ all_parts d ns h = joined_parts d 0 ns ∙ take_all (sum ns) d h
 
 -- ---- the table of lengths
 
--- P holds of the vector of each row
-abbrev Each : (ℕ → Type 0) → List Row → Type 0
-Each P [] = Unit
-Each P (r ∷ rs) = P r.vector × Each P rs
-
 by_test : {P : Type 0} (b : Bool) → (b ≡ true → P) → (b ≡ false → P) → P
 by_test true t f = t refl
 by_test false t f = f refl
 
--- then it holds of a vector that has a length in the table
-in_table : (P : ℕ → Type 0) (rs : List Row) (v a : ℕ) → Each P rs → look rs v a ≢ None → P v
+-- what holds of the vector of each row holds of a vector that has a length in the table
+in_table : (P : ℕ → Type 0) (rs : List Row) (v a : ℕ) → Each (λ r. P r.vector) rs → look rs v a ≢ None → P v
 unfolding look
 in_table P [] v a p h = absurd (h refl)
-in_table P (r ∷ rs) v a p h =
-    by_test (eqb v r.vector) (λ e. rw (eqb-true v r.vector e) p.0) (λ e. in_table P rs v a p.1 (λ z. h (rw e z)))
+in_table P (r ∷ rs) v a (more p ps) h =
+    by_test (eqb v r.vector) (λ e. rw (eqb-true v r.vector e) p) (λ e. in_table P rs v a ps (λ z. h (rw e z)))
 
 -- ---- what is to be proved of each vector
 
@@ -225,17 +221,13 @@ module _ (d : List ℕ) (o : Octets d) where
   unreliable_kept r f = (refl, wrapper_whole (leb-true 20 (length d) r))
 
   -- in the order of the rows, of which Join has two
-  each_kept : Each (Kept d) rows
-  each_kept = (
-    join_kept,
-    (
-      join_kept,
-      (
-        accept_kept,
-        (refuse_kept, (leaving_kept, (nak_kept, (sessions_kept, (ack_kept, (reliable_kept, (unreliable_kept, tt))))))),
-      ),
-    ),
-  )
+  each_kept : Each (λ r. Kept d r.vector) rows
+  each_kept =
+      more join_kept
+      (more join_kept
+      (more accept_kept
+      (more refuse_kept
+      (more leaving_kept (more nak_kept (more sessions_kept (more ack_kept (more reliable_kept (more unreliable_kept none)))))))))
 
   kept : (v : ℕ) → Kept d v
   unfolding length_of

@@ -51,11 +51,6 @@ use Rattle.demands.proofs.Lemmas.OneStep.{brought}
 use Rattle.demands.proofs.Lemmas.Outcomes.{Carries, Sized, message_cases}
 use Rattle.demands.proofs.Lemmas.Owned.{sender_is, is_sender, Names, names_is, wrapper_names, message_sizes_lem, Has, it_has, meets}
 
--- ---- choices
-
-when : {A : Type 0} (b : Bool) (x y : A) → b ≡ true → cond b x y ≡ x
-when b x y e = rw e
-
 -- ---- the octets lent
 
 pub lent_length : (n : ℕ) (held : List ℕ) → length (lent_as n held) ≡ n
@@ -236,7 +231,7 @@ module _ (i : ℕ) (owner : Cid) (channel : ℕ) (s : State) (right : Right s) (
       ∙ ap (λ (f : Option ℕ). wrapper_for f (eqb v reliable_wrapper) (wrapper_of d) (length (contents d)))
       (ap (λ (k : ℕ). found owner k s.table) c ∙ it.finds))
       ∙ wrapper_own v d n
-      ∙ sym (when (is_wrapper v) _ _ w)
+      ∙ sym (rw w refl)
   asked_own ours v d n (readable, inr (e, c)) =
       let q : v ≡ join = eqb-true v join e in
       ap (λ (a : Result Asked Refusal). view_at i (in_memory (asked_outcome s.table s.held owner n (contents d) a)))
