@@ -3,18 +3,16 @@
 -- All sizes lent and all tables are meant, refused ones too. Assumes what the machine's types say: the counters and names of the table's records have the
 -- widths of their fields (`Wide`), a CID and data are octets, and a reciprocal channel number has two octets. The example at the end meets that.
 use Prim.Native.Nat.{ℕ, ◌<◌}
-use mathlib.Core.Bool.{Bool, true, false, cond, not}
+use mathlib.Core.Bool.{false}
 use mathlib.Core.List.{List, [], ◌∷◌}
 use mathlib.Core.Path.{◌≡◌, refl, sym, subst}
-use lib.Dec.{ltb, lit<}
+use lib.Dec.{lit<}
 use lib.ListN.{length, replicate, get_or-map}
 use Rattle.std.specs.Prelude.{Option, Some, None, is_some}
 use Rattle.octets.specs.Octets.{number, Octets as Bytes}
 use Rattle.message.specs.Layouts.{cid_at, join_of, reliable}
 use Rattle.message.specs.declared.Cid.{Cid}
 use Rattle.message.specs.declared.Join.{Join}
-use Rattle.refusal.specs.declared.Refusal.{Refusal}
-use Rattle.refusal.specs.declared.Refusal.TheVariants as refusal
 use Rattle.record.specs.Reasons.{leaving_reason}
 use Rattle.record.specs.declared.Record.{Record}
 use Rattle.gap.specs.Elapsed.{gives, elapsed_of, phased, in_standoff}
@@ -23,21 +21,20 @@ use Rattle.gap.specs.declared.Event.TheVariants as event
 use Rattle.gap.specs.Range.{nearer, nearest, nak_first, nak_last}
 use Rattle.gap.specs.declared.Event.{Event}
 use Rattle.joining.specs.Replies.{departure, missing}
-use Rattle.table.specs.Table.{same, found, lowest_free, table_formed, blank, record_at, named}
+use Rattle.table.specs.Table.{same, found, lowest_free, blank, record_at, named}
 use Rattle.table.proofs.Finding.{found_at_lem}
 use Rattle.writing.specs.Fits.{Octets}
 use Rattle.sending.specs.Sent.{event_of}
 use Rattle.carry.proofs.DeliveredLength.{each_at}
 use Rattle.member.specs.Sizes.{deliver_size, reply_size, elapsed_sizes, leave_sizes, cells_size}
 use Rattle.member.specs.Messages.{existing_at, join_outcome, plan_outcome, message_outcome}
-use Rattle.member.specs.Elapsing.{longest, Passing, refused_elapsed, passing, elapsed_outcome, sent_by}
-use Rattle.member.specs.Leaving.{Departing, refused_leave, departing, leave_for, leave_outcome}
+use Rattle.member.specs.Elapsing.{elapsed_outcome, sent_by}
+use Rattle.member.specs.Leaving.{departing, leave_outcome}
 use Rattle.demands.specs.Calls.{Sound}
 use Rattle.demands.specs.Channel.{entry_at}
 use Rattle.demands.specs.ReadBack.{ReadFrom, event_means, given_means, leave_means, FitTerms, FitExisting, Wide}
 use Rattle.demands.proofs.Lemmas.OneStep.{brought}
-use Rattle.demands.proofs.Lemmas.Outcomes.{message_cases}
-use Rattle.record.proofs.Choices.{either}
+use Rattle.demands.proofs.Lemmas.Outcomes.{message_cases, leave_cases, elapsed_cases}
 use Rattle.demands.proofs.Lemmas.Brought.{wrapper_says}
 use Rattle.demands.proofs.Lemmas.Sample as sample
 use Rattle.demands.proofs.RepliesReadBack.{none_read, step_reply_read, elapsed_read, leave_read, decided_read, join_fits, existing_fits, terms_fit}
@@ -77,44 +74,25 @@ message_replies ts held deliver reply sender ours v d n wide b c g =
 pub elapsed_sends : (ts : List Record) (cells ms i : ℕ) → Wide ts → i < length ts
     → ReadFrom (sent_by (entry_at (elapsed_outcome ts cells ms) i)) 0
     (event_means (record_at ts i).terms (entry_at (elapsed_outcome ts cells ms) i).event)
-unfolding elapsed_outcome elapsed_of event_of
+unfolding elapsed_of event_of
 elapsed_sends ts cells ms i wide l =
-    either Sent (not (elapsed_sizes (length ts) cells)) _ _ (stands refusal.WrongSize)
-    (either Sent (not (table_formed ts)) _ _ (stands refusal.WrongTable) (either Sent (ltb longest ms) _ _ (stands refusal.TooMuchTime) goes))
+    elapsed_cases ts cells ms (λ p. Of (entry_at p i))
+    (λ why. subst Of (sym (get_or-map (λ (r : Record). gives r event.Nothing) ts i (blank []))) none_read)
+    (subst Of (sym (get_or-map (λ (r : Record). elapsed_of r ms) ts i (blank []))) (elapsed_read (record_at ts i) ms (wide i l).0 (wide i l).1))
   where
     Of : Elapsed → Type 0
     Of e = ReadFrom (sent_by e) 0 (event_means (record_at ts i).terms e.event)
-
-    Sent : Passing → Type 0
-    Sent p = Of (entry_at p i)
-
-    stands : (why : Refusal) → Sent (refused_elapsed ts why)
-    stands why = subst Of (sym (get_or-map (λ (r : Record). gives r event.Nothing) ts i (blank []))) none_read
-
-    goes : Sent (passing ts ms)
-    goes =
-        subst Of (sym (get_or-map (λ (r : Record). elapsed_of r ms) ts i (blank [])))
-        (elapsed_read (record_at ts i) ms (wide i l).0 (wide i l).1)
 
 -- ---- leave calls
 
 pub leave_replies : (ts : List Record) (reply : ℕ) (owner : List ℕ) (channel reason : ℕ) → Wide ts
     → ReadFrom (leave_outcome ts reply owner channel reason).reply 0 (leave_means ts reason (leave_outcome ts reply owner channel reason).given)
-unfolding leave_outcome departing
+unfolding departing
 leave_replies ts reply owner channel reason wide =
-    either Sent (not (leave_sizes (length ts) reply (length owner))) _ _ none_read
-    (either Sent (not (table_formed ts)) _ _ none_read (by (found (cid_at owner 0) channel ts) refl))
-  where
-    Sent : Departing → Type 0
-    Sent p = ReadFrom p.reply 0 (leave_means ts reason p.given)
-
-    on : (i : ℕ) → i < length ts → (b : Bool) → leaving_reason reason ≡ b → Sent (cond b (departing ts i reason) (refused_leave ts refusal.WrongReason))
-    on i l true e = leave_read (record_at ts i) reason (wide i l).0 (wide i l).1 e
-    on i l false e = none_read
-
-    by : (f : Option ℕ) → found (cid_at owner 0) channel ts ≡ f → Sent (leave_for ts reason f)
-    by None e = none_read
-    by (Some i) e = on i (found_at_lem (cid_at owner 0) channel ts i e).0 (leaving_reason reason) refl
+    leave_cases ts reply owner channel reason (λ p. ReadFrom p.reply 0 (leave_means ts reason p.given)) (λ why. none_read)
+    (λ i l e r.
+    let w = wide i (found_at_lem (cid_at owner 0) channel ts i e).0 in
+    leave_read (record_at ts i) reason w.0 w.1 r)
 
 -- ---- examples: the table in which record 2 has channel 7 of the first owner, and on it the second owner's Join to channel 7, elapsed time, and a leave call
 

@@ -1,36 +1,31 @@
 -- A call that moves one record leaves all others: the other records of the table, and every octet of their places (`message_frame`, `leave_frame`); an elapsed call
 -- that is accepted gives each record what its own time makes of it (`elapsed_frame`). The first assumes a well-formed table of the machine's numbers (`Right`), the others nothing.
 use Prim.Native.Nat.{ℕ, zero, suc, ◌<◌}
-use mathlib.Core.Bool.{Bool, true, false, cond, not}
 use mathlib.Core.List.{List, [], ◌∷◌}
 use mathlib.Core.Logic.{◌≢◌}
 use mathlib.Core.Path.{◌≡◌, refl, sym, ap}
 use native.Mathlib.Omega.{arith}
-use lib.ListN.{length}
 use Rattle.std.specs.Prelude.{Option, Some, None, Ok}
 use Rattle.message.specs.Layouts.{cid_at, join_of}
 use Rattle.message.specs.Reading.{contents}
 use Rattle.message.specs.declared.Cid.{Cid}
 use Rattle.message.specs.declared.Join.{Join}
-use Rattle.refusal.specs.declared.Refusal.TheVariants as refusal
-use Rattle.record.specs.Reasons.{leaving_reason}
 use Rattle.record.specs.declared.Record.{Record}
 use Rattle.gap.specs.Elapsed.{elapsed_of}
 use Rattle.wrapper.specs.Taken.{taken}
 use Rattle.joining.specs.declared.Decision.{Decision}
 use Rattle.joining.specs.declared.Decision.TheVariants as decision
-use Rattle.table.specs.Table.{found, table_formed, record_at}
+use Rattle.table.specs.Table.{record_at}
 use Rattle.table.proofs.Tables.{set_there}
 use Rattle.carry.proofs.PlanFits.{taking}
-use Rattle.member.specs.Sizes.{leave_sizes}
 use Rattle.member.specs.Elapsing.{passing, passed_table}
-use Rattle.member.specs.Leaving.{Departing, refused_leave, departing, leave_for, leave_outcome}
+use Rattle.member.specs.Leaving.{departing, leave_outcome}
 use Rattle.member.specs.Messages.{Outcome, join_done, join_outcome, plan_outcome, message_outcome}
 use Rattle.demands.specs.Calls.{State, Right}
 use Rattle.demands.specs.Frame.{moved, Still}
 use Rattle.demands.proofs.Lemmas.Slabs.{slab_other}
 use Rattle.demands.proofs.Lemmas.OneStep.{brought}
-use Rattle.demands.proofs.Lemmas.Outcomes.{Carries, message_cases}
+use Rattle.demands.proofs.Lemmas.Outcomes.{Carries, message_cases, leave_cases}
 
 module _ (s : State) (right : Right s) (k : ℕ) where
   -- record k stands, if it is not the one that moves
@@ -69,20 +64,10 @@ module _ (s : State) (right : Right s) (k : ℕ) where
 pub leave_frame : (ts : List Record) (reply : ℕ) (owner : List ℕ) (channel reason k : ℕ)
     → (leave_outcome ts reply owner channel reason).given ≢ Ok k
     → record_at (leave_outcome ts reply owner channel reason).table k ≡ record_at ts k
-unfolding leave_outcome departing
+unfolding departing
 leave_frame ts reply owner channel reason k =
-    by (not (leave_sizes (length ts) reply (length owner))) (not (table_formed ts)) (found (cid_at owner 0) channel ts) (leaving_reason reason) refl
-  where
-    comes : Bool → Bool → Option ℕ → Departing
-    comes a b f = cond a (refused_leave ts refusal.WrongSize) (cond b (refused_leave ts refusal.WrongTable) (leave_for ts reason f))
-
-    by : (a b : Bool) (f : Option ℕ) (c : Bool) → leaving_reason reason ≡ c
-        → (comes a b f).given ≢ Ok k → record_at (comes a b f).table k ≡ record_at ts k
-    by true b f c e z = refl
-    by false true f c e z = refl
-    by false false None c e z = refl
-    by false false (Some i) false e z = rw e
-    by false false (Some i) true e z = let y = rw e at z in rw e (set_there ts i _ k (λ q. y (ap Ok q)))
+    leave_cases ts reply owner channel reason (λ p. p.given ≢ Ok k → record_at p.table k ≡ record_at ts k) (λ why z. refl)
+    (λ i l e r z. set_there ts i _ k (λ q. z (ap Ok q)))
 
 pub elapsed_frame : (ts : List Record) (ms k : ℕ) → record_at (passed_table (passing ts ms)) k ≡ (elapsed_of (record_at ts k) ms).after
 unfolding elapsed_of

@@ -1,12 +1,12 @@
 -- Every call takes a well-formed table to a well-formed table (`table_stays`), and eight free records are well formed (`free_table_right`). It
 -- assumes of the machine that its counters have 32 bits and that the data of messages are octets (`Sound`, `Lawful`).
 use Prim.Native.Nat.{ℕ, zero, suc, ◌<◌}
-use mathlib.Core.Bool.{Bool, true, false, cond, not}
+use mathlib.Core.Bool.{Bool, true, false, cond}
 use mathlib.Core.List.{List, [], ◌∷◌, map}
 use mathlib.Core.Logic.{inl, inr}
 use mathlib.Core.Path.{◌≡◌, refl, sym, ◌∙◌}
 use native.Mathlib.Omega.{arith}
-use lib.Dec.{lit<, ltb, eqb}
+use lib.Dec.{lit<, eqb}
 use lib.ListN.{length, set, replicate, length-set, length-map, get_or-replicate}
 use Rattle.std.specs.Prelude.{Option, Some, None, is_some}
 use Rattle.octets.specs.Octets.{Octets}
@@ -15,7 +15,6 @@ use Rattle.message.specs.Reading.{contents}
 use Rattle.message.specs.declared.Cid.{Cid}
 use Rattle.message.specs.declared.Join.{Join}
 use Rattle.message.specs.declared.Parameters.{Parameters}
-use Rattle.record.specs.Reasons.{leaving_reason}
 use Rattle.record.specs.WellFormed.{well_formed}
 use Rattle.record.specs.With.{freed}
 use Rattle.record.specs.declared.Record.{Record}
@@ -33,24 +32,24 @@ use Rattle.joining.specs.declared.Decision.{Decision}
 use Rattle.joining.specs.declared.Decision.TheVariants as decision
 use Rattle.joining.proofs.Made.{made_well_formed}
 use Rattle.joining.proofs.Depends.{accepted_new}
-use Rattle.table.specs.Table.{named, found, lowest_free, table_formed, blank, free_table, record_at}
+use Rattle.table.specs.Table.{named, found, lowest_free, blank, free_table, record_at}
 use Rattle.table.proofs.Finding.{found_at_lem, found_nowhere, free_at}
 use Rattle.table.proofs.Tables.{TableFormed, formed, well_formed_lem, free_table_formed, named_is, is_named_lem, Stands, set_at, free_set_formed, same_set_formed, new_set_formed}
 use Rattle.carry.proofs.OwnPlaces.{held_length}
 use Rattle.carry.proofs.PlanFits.{plan_fits}
-use Rattle.member.specs.Sizes.{table_size, held_size, elapsed_sizes, leave_sizes}
+use Rattle.member.specs.Sizes.{table_size, held_size}
 use Rattle.member.specs.Messages.{Outcome, existing_at, table_after, join_outcome, plan_outcome, message_outcome}
-use Rattle.member.specs.Elapsing.{longest, Passing, elapsed_outcome, passed_table}
-use Rattle.member.specs.Leaving.{Departing, leave_for, departing, leave_outcome}
+use Rattle.member.specs.Elapsing.{elapsed_outcome, passed_table}
+use Rattle.member.specs.Leaving.{departing, leave_outcome}
 use Rattle.demands.specs.Calls as calls
 use Rattle.demands.specs.Calls.{Call, State, table_step, lent_as, Sound, Lawful, Right, Both}
 use Rattle.demands.proofs.Lemmas.Kept.{terms_kept}
 use Rattle.demands.proofs.Lemmas.Owned.{message_sizes_lem}
-use Rattle.record.proofs.Choices.{either, never}
+use Rattle.record.proofs.Choices.{never}
 use Rattle.demands.proofs.Lemmas.Sounds.{sound_by, aside, taken_sound, elapsed_sound, made_sound}
 use Rattle.demands.proofs.Lemmas.Brought.{wrapper_says, join_says}
 use Rattle.demands.proofs.Lemmas.OneStep.{brought}
-use Rattle.demands.proofs.Lemmas.Outcomes.{Carries, Sized, message_cases}
+use Rattle.demands.proofs.Lemmas.Outcomes.{Carries, Sized, message_cases, leave_cases, elapsed_cases}
 
 -- ---- a table of the machine's numbers
 
@@ -82,19 +81,13 @@ module _ {ts : List Record} (t : RightTable ts) where
 
 leave_right : (ts : List Record) (reply : ℕ) (owner : List ℕ) (channel reason : ℕ) → RightTable ts
     → RightTable (leave_outcome ts reply owner channel reason).table
-unfolding leave_outcome departing
+unfolding departing
 leave_right ts reply owner channel reason t =
-    either (λ (p : Departing). RightTable p.table) (not (leave_sizes (length ts) reply (length owner))) _ _ t
-    (either (λ (p : Departing). RightTable p.table) (not (table_formed ts)) _ _ t (by (found (cid_at owner 0) channel ts) refl))
-  where
-    by : (f : Option ℕ) → found (cid_at owner 0) channel ts ≡ f → RightTable (leave_for ts reason f).table
-    by None e = t
-    by (Some i) e =
-        let h = (found_at_lem (cid_at owner 0) channel ts i e).0 in
-        let r = freed (record_at ts i) in
-        either (λ (p : Departing). RightTable p.table) (leaving_reason reason) _ _
-        (set_right t i r h (free_set_formed ts i r h t.formed refl) (aside (sound_at t i h) _ _ _ _))
-        t
+    leave_cases ts reply owner channel reason (λ p. RightTable p.table) (λ why. t)
+    (λ i l e q.
+    let h = (found_at_lem (cid_at owner 0) channel ts i e).0 in
+    let r = freed (record_at ts i) in
+    set_right t i r h (free_set_formed ts i r h t.formed refl) (aside (sound_at t i h) _ _ _ _))
 
 -- ---- an elapsed call
 
@@ -148,15 +141,11 @@ module _ (each : Record → Elapsed) (past : (each (blank [])).after ≡ blank [
           goes_at k = rw (after_at ts k) (goes (record_at ts k) (t.formed.each k))
 
 elapsed_right : (ts : List Record) (cells ms : ℕ) → RightTable ts → RightTable (passed_table (elapsed_outcome ts cells ms))
-unfolding elapsed_outcome elapsed_of
+unfolding elapsed_of
 elapsed_right ts cells ms t =
-    either (λ (p : Passing). RightTable (passed_table p)) (not (elapsed_sizes (length ts) cells)) _ _ standing
-    (either (λ (p : Passing). RightTable (passed_table p)) (not (table_formed ts)) _ _ standing
-    (either (λ (p : Passing). RightTable (passed_table p)) (ltb longest ms) _ _ standing
-    (after_right (λ r. elapsed_of r ms) refl (λ r. elapsed_goes r ms) (λ r. elapsed_sound r ms) ts t)))
-  where
-    standing : RightTable (map (λ e. e.after) (map (λ r. gives r event.Nothing) ts))
-    standing = after_right (λ r. gives r event.Nothing) refl (λ r w. record { formed = w; used = λ u. u; terms = refl }) (λ r s. s) ts t
+    elapsed_cases ts cells ms (λ p. RightTable (passed_table p))
+    (λ why. after_right (λ r. gives r event.Nothing) refl (λ r w. record { formed = w; used = λ u. u; terms = refl }) (λ r s. s) ts t)
+    (after_right (λ r. elapsed_of r ms) refl (λ r. elapsed_goes r ms) (λ r. elapsed_sound r ms) ts t)
 
 -- ---- a message call
 

@@ -116,7 +116,7 @@ pub record FitTerms (t : Terms) : Type 0 where
   pub mid : Octets 2 t.mid
   pub reciprocal : Octets 2 t.reciprocal
 
--- the numbers of a reply, of an event, of an answer to a Join, and of the record that the table has for it
+-- the numbers of a reply, of an event, of an answer to a Join, and of the record that the table has for it. Nothing is asked of a reason: its number is an octet whichever it is
 abbrev pub FitReply : Reply → Type 0
 FitReply reply.Nothing = Unit {0}
 FitReply (reply.Ack r) = Octets 4 r.0

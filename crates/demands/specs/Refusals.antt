@@ -68,6 +68,7 @@ no_record ts sender v d = is_wrapper v && not (is_some (own_place ts sender d))
 abbrev pub too_long : ℕ → List ℕ → Bool
 too_long v d = is_wrapper v && ltb most_contents (length (contents d))
 
+-- the record that is found. (`None` by itself is, in this file, that no condition holds)
 abbrev pub record_found : List Record → Option ℕ → Record
 record_found ts (Some i) = record_at ts i
 record_found ts option.None = blank []

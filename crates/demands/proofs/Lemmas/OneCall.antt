@@ -3,13 +3,12 @@
 use Prim.Native.Nat.{ℕ}
 use mathlib.Core.Bool.{Bool, true, false, cond, not, ◌&&◌, and-eq-true_iff, false≢true}
 use mathlib.Core.List.{List, []}
-use mathlib.Core.Logic.{◌≢◌}
 use mathlib.Core.Path.{◌≡◌, refl, sym, ap, ◌∙◌}
 use native.Mathlib.Omega.{arith}
 use lib.Dec.{ltb, eqb}
 use lib.ListN.{length, get_or-map}
 use borrow.Author.Tests.{eqb-true, eq-eqb}
-use Rattle.std.specs.Prelude.{Option, Some, None}
+use Rattle.std.specs.Prelude.{Option, Some}
 use Rattle.message.specs.Layouts.{cid_at}
 use Rattle.message.specs.declared.Cid.{Cid}
 use Rattle.refusal.specs.declared.Refusal.TheVariants as refusal
@@ -23,7 +22,7 @@ use Rattle.joining.specs.Replies.{departure}
 use Rattle.table.specs.Table.{named, found, record_at, blank}
 use Rattle.table.proofs.Tables.{set_there, set_here}
 use Rattle.sending.specs.Sent.{sent_of}
-use Rattle.member.specs.Sizes.{elapsed_sizes, leave_sizes, table_size, cid_size}
+use Rattle.member.specs.Sizes.{elapsed_sizes, leave_sizes, table_size}
 use Rattle.member.specs.Elapsing.{longest, Passing, refused_elapsed, passing, elapsed_outcome, passed_table, sent_by}
 use Rattle.member.specs.Leaving.{Departing, refused_leave, departing, leave_for, leave_outcome}
 use Rattle.demands.specs.Runs.{Came}
@@ -33,6 +32,7 @@ use Rattle.demands.specs.Channel as channels
 use Rattle.demands.specs.Channel.{Channel, Told, refused, left, stays, elapsed_on, leave_on, one, is_cid, own, entry_at, channel_at, view_at, slab}
 use Rattle.demands.proofs.Lemmas.Lists.{standing}
 use Rattle.demands.proofs.Lemmas.Owned.{sender_is, is_sender, leave_sizes_lem, Has, it_has, meets}
+use Rattle.demands.proofs.Lemmas.Outcomes.{leave_cases}
 use Rattle.demands.proofs.Lemmas.OneMessage.{message_own, message_other}
 
 -- ---- elapsed time
@@ -142,41 +142,21 @@ module _ (i : ℕ) (owner : Cid) (channel : ℕ) (s : State) (right : Right s) (
         by true = ap (λ (f : Option ℕ). view_at i (leave_came s (leave_for s.table reason f))) finds ∙ leaves_own
         by false = refl
 
-    -- another record is left
-    leaves_other : (k : ℕ) → k ≢ i → record_at (leave_for s.table reason (Some k)).table i ≡ record_at s.table i
-    unfolding departing
-    leaves_other k z = by (leaving_reason reason)
-      where
-        by : (b : Bool) → record_at (cond b (departing s.table k reason) (refused_leave s.table refusal.WrongReason)).table i ≡ record_at s.table i
-        by true = set_there s.table k (freed (record_at s.table k)) i z
-        by false = refl
-
-    -- a call that meets record i is the channel's own
-    leave_not_met : length sender ≡ cid_size → own owner channel (calls.leave reply sender name reason) ≡ false
-        → found (cid_at sender 0) name s.table ≢ Some i
-    unfolding own
-    leave_not_met sized other f =
-        let m = meets i owner channel s right has (cid_at sender 0) name f in
-        false≢true
-        (sym other ∙ (and-eq-true_iff (is_cid owner sender) (eqb name channel)).1 (is_sender owner sender sized m.0, eq-eqb name channel m.1))
-
+    -- a call that meets record i is the channel's own, so another leaves another record
     leave_other : own owner channel (calls.leave reply sender name reason) ≡ false
         → channel_at i (table_step s (calls.leave reply sender name reason)).state ≡ channel_at i s
-    unfolding table_step channel_at
+    unfolding own table_step channel_at departing
     leave_other other =
+        leave_cases s.table reply sender name reason (λ p. channel_at i (leave_came s p).state ≡ channel_at i s) (λ why. refl)
+        (λ k l f q.
         ap (λ (r : Record). record { at = r; held = slab i s.held })
-        (ap (λ (p : Departing). record_at p.table i) leave_comes ∙ by (leave_sizes table_size reply (length sender)) refl)
-      where
-        to : (f : Option ℕ) → found (cid_at sender 0) name s.table ≡ f → length sender ≡ cid_size
-            → record_at (leave_for s.table reason f).table i ≡ record_at s.table i
-        to None f sized = refl
-        to (Some k) f sized = leaves_other k (λ q. leave_not_met sized other (f ∙ ap Some q))
-
-        by : (b : Bool) → leave_sizes table_size reply (length sender) ≡ b
-            → record_at (cond b (leave_for s.table reason (found (cid_at sender 0) name s.table)) (refused_leave s.table refusal.WrongSize)).table i
-            ≡ record_at s.table i
-        by true e = to (found (cid_at sender 0) name s.table) refl (leave_sizes_lem _ reply (length sender) e)
-        by false e = refl
+        (set_there s.table k (freed (record_at s.table k)) i
+        (λ e.
+        let m = meets i owner channel s right has (cid_at sender 0) name (f ∙ ap Some e) in
+        false≢true
+        (sym other
+        ∙ (and-eq-true_iff (is_cid owner sender) (eqb name channel)).1
+        (is_sender owner sender (leave_sizes_lem _ reply (length sender) l) m.0, eq-eqb name channel m.1)))))
 
   -- ---- every call
 

@@ -1,5 +1,5 @@
--- One case split over a message call on any table (`message_cases`): what holds of every refusal, of the answer to the Join that it brings and of every plan that
--- is carried out for the wrapper that it brings holds of what the call comes to. Assumes nothing.
+-- One case split over each call on any table (`message_cases`, `leave_cases`, `elapsed_cases`): what holds of every refusal and of what is accepted holds of what the call
+-- comes to. A message call accepts the answer to the Join that it brings, and a plan that is carried out for the wrapper that it brings. Assumes nothing.
 use Prim.{Unit}
 use Prim.Native.Nat.{ℕ, ◌<◌, ◌≤◌}
 use mathlib.Core.Bool.{Bool, true, false, cond, not}
@@ -15,6 +15,7 @@ use Rattle.message.specs.Reading.{readable, contents}
 use Rattle.message.specs.declared.Cid.{Cid}
 use Rattle.refusal.specs.declared.Refusal.{Refusal}
 use Rattle.refusal.specs.declared.Refusal.TheVariants as refusal
+use Rattle.record.specs.Reasons.{leaving_reason}
 use Rattle.record.specs.WellFormed.{most_contents}
 use Rattle.record.specs.declared.Record.{Record}
 use Rattle.wrapper.specs.Judge.{judged}
@@ -25,7 +26,9 @@ use Rattle.table.proofs.Tables.{named_is}
 use Rattle.asking.specs.Asking.{wrapper_for, wrapper_asks, join_asks, asked_of}
 use Rattle.asking.specs.declared.Asked.{Asked}
 use Rattle.asking.specs.declared.Asked.TheVariants as asked
-use Rattle.member.specs.Sizes.{message_sizes}
+use Rattle.member.specs.Sizes.{message_sizes, elapsed_sizes, leave_sizes}
+use Rattle.member.specs.Elapsing.{longest, Passing, refused_elapsed, passing, elapsed_outcome}
+use Rattle.member.specs.Leaving.{Departing, refused_leave, departing, leave_for, leave_outcome}
 use Rattle.member.specs.Messages.{Outcome, refused_message, join_outcome, plan_outcome, stepped_outcome, wrapper_outcome, asked_outcome, message_outcome}
 use Rattle.record.proofs.Choices.{either}
 use Rattle.demands.specs.Refusals.{is_wrapper}
@@ -104,3 +107,36 @@ module _ (ts : List Record) (held : List ℕ) (deliver reply : ℕ) (sender ours
           by false e = refuses refusal.WrongSize
           by true e =
               either P (not (table_formed ts)) _ _ (refuses refusal.WrongTable) (asked_case e (asks.asks ts s (cid_at ours 0) v d))
+
+-- ---- a leave call
+
+module _ (ts : List Record) (reply : ℕ) (owner : List ℕ) (channel reason : ℕ) where
+  pub leave_cases : (P : Departing → Type 0) → ((why : Refusal) → P (refused_leave ts why))
+      → ((i : ℕ) → leave_sizes (length ts) reply (length owner) ≡ true → found (cid_at owner 0) channel ts ≡ Some i → leaving_reason reason ≡ true
+      → P (departing ts i reason))
+      → P (leave_outcome ts reply owner channel reason)
+  unfolding leave_outcome
+  leave_cases P refuses departs = by (leave_sizes (length ts) reply (length owner)) refl
+    where
+      on : leave_sizes (length ts) reply (length owner) ≡ true → (f : Option ℕ) (b : Bool) → found (cid_at owner 0) channel ts ≡ f
+          → leaving_reason reason ≡ b → P (leave_for ts reason f)
+      on l None b e r = refuses refusal.NoRecord
+      on l (Some i) true e r = rw r (departs i l e r)
+      on l (Some i) false e r = rw r (refuses refusal.WrongReason)
+
+      by : (b : Bool) → leave_sizes (length ts) reply (length owner) ≡ b
+          → P
+          (cond (not b) (refused_leave ts refusal.WrongSize)
+          (cond (not (table_formed ts)) (refused_leave ts refusal.WrongTable) (leave_for ts reason (found (cid_at owner 0) channel ts))))
+      by false l = refuses refusal.WrongSize
+      by true l = either P (not (table_formed ts)) _ _ (refuses refusal.WrongTable) (on l _ _ refl refl)
+
+-- ---- an elapsed call
+
+pub elapsed_cases : (ts : List Record) (cells ms : ℕ) (P : Passing → Type 0) → ((why : Refusal) → P (refused_elapsed ts why)) → P (passing ts ms)
+    → P (elapsed_outcome ts cells ms)
+unfolding elapsed_outcome
+elapsed_cases ts cells ms P refuses passes =
+    either P (not (elapsed_sizes (length ts) cells)) _ _ (refuses refusal.WrongSize)
+    (either P (not (table_formed ts)) _ _ (refuses refusal.WrongTable)
+    (either P (ltb longest ms) _ _ (refuses refusal.TooMuchTime) passes))
