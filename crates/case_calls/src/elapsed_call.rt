@@ -1,117 +1,41 @@
 // An elapsed call: what each record sends as time passes.
-use case_forms::kinds::{CELL, CELL_LEAVING, CELL_OUTBOUND, TAKEN};
-use case_forms::saying::{say_octets, say_plain};
-use case_forms::{SAID, VALUES, value_at};
-use case_rooms::lent::{FILL, ROOM, first_changed, lent_of, wipe};
-use case_rooms::{Piece, Ran, fault_in, say_records, say_refused};
-use case_rows::{ROWS, keep_answer, table_of, word};
-use case_stream::report::Lent;
-use case_text::{part, plus};
+use case_forms::Spelled;
+use case_rooms::lent::{CELL, Room};
+use case_rooms::setting::Setting;
+use case_rooms::{Fault, Ran};
 use gap::Event;
 use member::Cell;
+use std::alloc::AllocError;
 
-// What an elapsed call answers besides the table.
-#[derive(Clone, Copy)]
-struct Ticked {
-    number: u8,
-    cells: [Cell; 8],
-}
-
-fn pass(rows: &mut [u64; ROWS], cells: &mut [u8], ms: u32) -> Ticked {
-    let p = member::elapsed(table_of(rows), cells, ms);
-    let table = p.table;
-    keep_answer(rows, table);
-    let each = p.cells;
-    Ticked {
-        number: p.number,
-        cells: each,
-    }
-}
-
-// The line of a NAK or a Leaving.
-fn cell_kind(event: Event) -> u8 {
-    let Event::Nak {
-        reliable: _,
-        first: _,
-        last: _,
-        outbound,
-    } = event
-    else {
-        return CELL_LEAVING;
+// What the record of a cell sends.
+fn say_cell(said: &mut String, room: &mut Room, i: usize, cell: Cell) -> Result<(), AllocError> {
+    let sent = match cell.event {
+        Event::Nothing => return Ok(()),
+        Event::Nak {
+            outbound: false,
+            ..
+        } => "nak",
+        Event::Nak { outbound: true, .. } => "nak outbound",
+        Event::Leaving(_, _) => "leaving",
     };
-    if outbound { CELL_OUTBOUND } else { CELL }
+    write!(said, "= cell {i} {sent} ")?;
+    room.say(said, i.saturating_mul(CELL), cell.len)?;
+    said.push_str("\n")
 }
 
-fn is_nothing(event: Event) -> bool {
-    if let Event::Nothing = event {
-        true
-    } else {
-        false
+pub fn elapsed_step(setting: &mut Setting, ms: u32) -> Result<Ran, AllocError> {
+    let mut room = Room::new(setting.alloc, setting.lent.cells)?;
+    let mut said = String::new(setting.alloc);
+    match member::elapsed(setting.table, room.lend(), ms) {
+        Ok(passed) => {
+            said.push_str("= taken\n")?;
+            for (i, cell) in passed.cells.iter().enumerate() {
+                say_cell(&mut said, &mut room, i, *cell)?;
+            }
+            setting.accept(&mut said, passed.table)?;
+        }
+        Err(refusal) => writeln!(said, "= {}", Spelled(refusal))?,
     }
-}
-
-// What record i sends: so many octets by a kind of line.
-fn say_sending(
-    cells: &mut [u8; ROOM],
-    i: usize,
-    kind: u8,
-    len: usize,
-    said: &mut [u8; SAID],
-    at: usize,
-) -> usize {
-    let from = i % 8 * 64;
-    let to = plus(from, len);
-    let end = say_octets(kind, i as u64, 0, part(cells, from, to), said, at);
-    wipe(cells, from, to);
-    end
-}
-
-fn say_cell(
-    cells: &mut [u8; ROOM],
-    i: usize,
-    cell: Cell,
-    said: &mut [u8; SAID],
-    at: usize,
-) -> usize {
-    let event = cell.event;
-    if is_nothing(event) {
-        return at;
-    }
-    say_sending(cells, i, cell_kind(event), cell.len, said, at)
-}
-
-fn say_cells(room: &mut [u8; ROOM], cells: [Cell; 8], said: &mut [u8; SAID], from: usize) -> usize {
-    let mut at = from;
-    let mut i: usize = 0;
-    while i < 8 {
-        let cell = cells[i];
-        at = say_cell(room, i, cell, said, at);
-        i += 1;
-    }
-    at
-}
-
-fn say_ticked(t: Ticked, room: &mut [u8; ROOM], said: &mut [u8; SAID]) -> usize {
-    if t.number != 0 {
-        return say_refused(said, t.number as u64);
-    }
-    let cells = t.cells;
-    let at = say_plain(TAKEN, said, 0);
-    say_cells(room, cells, said, at)
-}
-
-pub fn elapsed_step(
-    rows: &mut [u64; ROWS],
-    lent: Lent,
-    values: &[u64; VALUES],
-    said: &mut [u8; SAID],
-) -> Ran {
-    let mut room = [FILL; ROOM];
-    let n = lent_of(lent.cells, ROOM);
-    let ticked = pass(rows, &mut room[0..n], word(value_at(values, 0)));
-    let end = say_ticked(ticked, &mut room, said);
-    Ran {
-        said: say_records(rows, said, end),
-        fault: fault_in(Piece::Cells, first_changed(&room, n)),
-    }
+    let fault = room.first_changed().map(Fault::Cells);
+    Ok(Ran { said, fault })
 }

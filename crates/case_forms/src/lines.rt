@@ -1,87 +1,162 @@
-// Reading a whole line: its first word says its kind, and what follows the form of that kind.
-use crate::kinds::{
-    A_LINE, A_MESSAGE, A_PHASE, A_PIECE, AN_ADDRESS, CHANNEL, JOIN, LEND, NULL, OURS, QUIET,
-    RECORD, RELIABLE, TABLE, TAKEN, WRITE, kind_of,
-};
-use crate::reading::{Spot, read_choice, read_end, read_kind, start_spot, stop_for};
-use crate::{OCTETS, SAID, VALUES, value_at};
-use case_text::{Number, Word, octets_of};
+// What each line of a case file says, but for `case`, `=` and comments.
+use crate::misread::{Misread, Wanted};
+use crate::reading::{Reader, Value};
+use message::Message;
+use record::{Place, Record};
+use std::alloc::Global;
 
-fn read_channel(
-    line: &[u8],
-    head: Spot,
-    values: &mut [u64; VALUES],
-    octets: &mut [u8; OCTETS],
-    said: &mut [u8; SAID],
-) -> Spot {
-    let spot = read_kind(CHANNEL, line, head, values, octets, said);
-    read_choice(QUIET, TABLE, A_PHASE, line, spot, values, octets, said)
+// What a call may be lent.
+#[derive(Clone, Copy, PartialEq, Eq)]
+pub enum Piece {
+    Table,
+    Held,
+    Deliver,
+    Reply,
+    Cells,
 }
 
-// The message of a `write`, behind its room.
-fn read_written(
-    line: &[u8],
-    head: Spot,
-    values: &mut [u64; VALUES],
-    octets: &mut [u8; OCTETS],
-    said: &mut [u8; SAID],
-) -> Spot {
-    let spot = read_choice(RELIABLE, NULL, A_MESSAGE, line, head, values, octets, said);
-    if value_at(values, 1) != ((JOIN - RELIABLE) as u64) {
-        return spot;
+// A line that sets something up for the steps that follow, or that is a step.
+#[derive(Drop)]
+pub enum Line {
+    Ours(Vec<u8>),
+    // Sets all of a record but its places.
+    Record(usize, Record),
+    Free(usize),
+    Place(SetPlace),
+    Lend(Piece, usize),
+    Step(Step),
+}
+
+// Sets a place of a record, and its octets.
+#[derive(Drop)]
+pub struct SetPlace {
+    pub record: usize,
+    pub place: usize,
+    pub numbers: Place,
+    pub contents: Vec<u8>,
+}
+
+#[derive(Drop)]
+pub enum Step {
+    Message {
+        sender: Vec<u8>,
+        vector: u8,
+        reciprocal: u16,
+        data: Vec<u8>,
+    },
+    Elapsed(u32),
+    Leave {
+        owner: Vec<u8>,
+        channel: u16,
+        reason: u8,
+    },
+    Block {
+        position: u32,
+        octets: Vec<u8>,
+    },
+    Read {
+        vector: u8,
+        data: Vec<u8>,
+    },
+    Write {
+        room: usize,
+        message: Message,
+        contents: Vec<u8>,
+    },
+}
+
+// The most octets of our CID: a case may be about another length than 16.
+const OURS_MOST: usize = 256;
+
+impl Value for Piece {
+    fn read(r: &mut Reader<'_>) -> Result<Piece, Misread> {
+        let at = r.at();
+        match r.name() {
+            "table" => Ok(Piece::Table),
+            "held" => Ok(Piece::Held),
+            "deliver" => Ok(Piece::Deliver),
+            "reply" => Ok(Piece::Reply),
+            "cells" => Ok(Piece::Cells),
+            _ => Err(Misread::At(at, Wanted::Piece)),
+        }
     }
-    read_choice(NULL, TAKEN, AN_ADDRESS, line, spot, values, octets, said)
 }
 
-// Reads what follows the form of a kind.
-fn read_more(
-    kind: u8,
-    line: &[u8],
-    head: Spot,
-    values: &mut [u64; VALUES],
-    octets: &mut [u8; OCTETS],
-    said: &mut [u8; SAID],
-) -> Spot {
-    match kind {
-        RECORD => read_channel(line, head, values, octets, said),
-        LEND => read_choice(TABLE, RELIABLE, A_PIECE, line, head, values, octets, said),
-        WRITE => read_written(line, head, values, octets, said),
-        _ => head,
+impl Value for SetPlace {
+    fn read(r: &mut Reader<'_>) -> Result<SetPlace, Misread> {
+        let record = r.index(7)?;
+        let place = r.index(3)?;
+        let total = r.field("total")?;
+        let reliable = r.field("reliable")?;
+        r.literal("contents")?;
+        let contents = r.octets_up_to(usize::from(u16::MAX))?;
+        Ok(SetPlace {
+            record,
+            place,
+            numbers: Place {
+                used: true,
+                total,
+                reliable,
+                len: contents.len() as u16,
+            },
+            contents,
+        })
     }
 }
 
-// Which kind of line begins with this word, or CHANNEL if none does.
-pub fn line_kind(line: &[u8], w: Word) -> u8 {
-    let Number::Value(n) = kind_of(octets_of(line, w), OURS, CHANNEL) else {
-        return CHANNEL;
+fn read_write(r: &mut Reader<'_>) -> Result<Step, Misread> {
+    let room = r.value::<u16>()?.into();
+    let message = r.value()?;
+    let contents = match message {
+        Message::ReliableWrapper(_) | Message::UnreliableWrapper(_) => r.field("contents")?,
+        _ => Vec::new(r.alloc),
     };
-    (n % 256) as u8
+    Ok(Step::Write {
+        room,
+        message,
+        contents,
+    })
 }
 
-// Reads a line of a kind from its start on.
-fn read_as(
-    kind: u8,
-    line: &[u8],
-    values: &mut [u64; VALUES],
-    octets: &mut [u8; OCTETS],
-    said: &mut [u8; SAID],
-) -> Spot {
-    let head = read_kind(kind, line, start_spot(), values, octets, said);
-    let last = read_more(kind, line, head, values, octets, said);
-    read_end(line, last, said)
-}
-
-// Reads a line whose first word is w and says this kind.
-pub fn read_line(
-    kind: u8,
-    line: &[u8],
-    w: Word,
-    values: &mut [u64; VALUES],
-    octets: &mut [u8; OCTETS],
-    said: &mut [u8; SAID],
-) -> Spot {
-    if kind == CHANNEL {
-        return stop_for(start_spot(), w.from, A_LINE, 0, said);
+impl Value for Line {
+    fn read(r: &mut Reader<'_>) -> Result<Line, Misread> {
+        let at = r.at();
+        match r.name() {
+            "ours" => Ok(Line::Ours(r.octets_up_to(OURS_MOST)?)),
+            "record" => Ok(Line::Record(r.index(7)?, r.value()?)),
+            "free" => Ok(Line::Free(r.index(7)?)),
+            "place" => Ok(Line::Place(r.value()?)),
+            "lend" => Ok(Line::Lend(r.value()?, r.value::<u16>()?.into())),
+            "message" => Ok(Line::Step(Step::Message {
+                sender: r.value()?,
+                vector: r.value()?,
+                reciprocal: r.value()?,
+                data: r.value()?,
+            })),
+            "elapsed" => Ok(Line::Step(Step::Elapsed(r.value()?))),
+            "leave" => Ok(Line::Step(Step::Leave {
+                owner: r.value()?,
+                channel: r.value()?,
+                reason: r.value()?,
+            })),
+            "block" => Ok(Line::Step(Step::Block {
+                position: r.value()?,
+                octets: r.value()?,
+            })),
+            "read" => Ok(Line::Step(Step::Read {
+                vector: r.value()?,
+                data: r.value()?,
+            })),
+            "write" => Ok(Line::Step(read_write(r)?)),
+            _ => Err(Misread::At(at, Wanted::Line)),
+        }
     }
-    read_as(kind, line, values, octets, said)
+}
+
+// Reads a line whole.
+pub fn read_line(alloc: Global, text: &[u8]) -> Result<Line, Misread> {
+    let mut r = Reader::of(alloc, text);
+    let line = r.value()?;
+    r.end()?;
+    Ok(line)
 }

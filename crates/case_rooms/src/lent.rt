@@ -1,133 +1,142 @@
-// The octets that are lent: what lies in a room before a call, and which octets a call has changed. Whole rooms are compared in plain loops,
-// which the compiler makes wide; only where one differs is the place looked for.
-ghost use Rattle.std.specs.Prelude.{◌≤◌};
+// The octets that a step is lent: what lies in a room before it, and which octets it has changed.
+use case_forms::lines::Piece;
+use case_text::Hex;
+use std::alloc::{AllocError, Global};
 
-use case_text::{Number, peek, plus};
+// Every octet of a room before a step.
+const FILL: u8 = 170;
 
-// Every octet of a room before a call.
-pub const FILL: u8 = 170;
+// The most octets that a piece is lent with.
+const MOST: usize = 65536;
 
-// The most octets that any piece is lent with.
-pub const ROOM: usize = 65536;
+// A place and a delivery's cell have this many octets.
+pub const PLACE: usize = 1454;
 
-// The held octets, and behind them what they were before the call.
-pub const HELD: usize = 131072;
+// The cell of a record's NAK or Leaving has this many.
+pub const CELL: usize = 64;
 
-// A place and a delivery cell have this many octets.
-pub const MOST: usize = 1454;
-
-// How much of a piece of `len` octets is lent.
-pub fn lent_of(n: usize, len: usize) -> usize
-    ensures { result ≤ len }
-{
-    if n < len { n } else { len }
+// How much of each piece is lent to the next step.
+#[derive(Clone, Copy)]
+pub struct Lent {
+    pub table: usize,
+    pub held: usize,
+    pub deliver: usize,
+    pub reply: usize,
+    pub cells: usize,
 }
 
-// Fills the octets from `from` up to `to` again.
-pub fn wipe(room: &mut [u8; ROOM], from: usize, to: usize) {
-    let mut i = from;
-    while i < to {
-        if ROOM <= i {
-            return;
+// What the paper asks for: eight records, their four places each, five deliveries, and 64 octets for a reply and for each record's cell.
+pub const RIGHT: Lent = Lent {
+    table: 8,
+    held: 46528,
+    deliver: 7270,
+    reply: 64,
+    cells: 512,
+};
+
+impl Lent {
+    pub fn set(&mut self, piece: Piece, n: usize) {
+        match piece {
+            Piece::Table => self.table = n,
+            Piece::Held => self.held = n,
+            Piece::Deliver => self.deliver = n,
+            Piece::Reply => self.reply = n,
+            Piece::Cells => self.cells = n,
         }
-        room[i] = FILL;
-        i += 1;
     }
 }
 
-// Whether each of the first n octets is as before the call.
-fn is_filled(room: &[u8; ROOM], n: usize) -> bool {
-    let end = lent_of(n, ROOM);
-    let mut same = true;
-    let mut i: usize = 0;
-    while i < end {
-        same = same & (room[i] == FILL);
-        i += 1;
-    }
-    same
+// A room of octets that a step may write.
+#[derive(Drop)]
+pub struct Room {
+    octets: Vec<u8>,
 }
 
-// The first of the n octets that was changed.
-pub fn first_changed(room: &[u8; ROOM], n: usize) -> Number {
-    if is_filled(room, n) {
-        return Number::Wrong;
+impl Room {
+    // A room of n octets.
+    pub fn new(alloc: Global, n: usize) -> Result<Room, AllocError> {
+        let octets = vec![in alloc; FILL; n]?;
+        Ok(Room { octets })
     }
-    let mut i: usize = 0;
-    while i < n {
-        if peek(room, i) != FILL {
-            return Number::Value(i);
+
+    pub fn lend(&mut self) -> &mut [u8] {
+        self.octets.as_mut_slice()
+    }
+
+    // Says the octets that an answer names. They are as before the step then.
+    pub fn say(&mut self, said: &mut String, from: usize, len: usize) -> Result<(), AllocError> {
+        let to = from.saturating_add(len);
+        let Some(octets) = self.octets.as_mut_slice().get_mut(from..to) else {
+            return Ok(());
+        };
+        write!(said, "{}", Hex(octets))?;
+        octets.fill(FILL);
+        Ok(())
+    }
+
+    // The first octet that was changed.
+    pub fn first_changed(&self) -> Option<usize> {
+        self.octets.iter().position(|b| *b != FILL)
+    }
+}
+
+// The held octets, and what they were before a step.
+#[derive(Drop)]
+pub struct Held {
+    octets: Vec<u8>,
+    before: Vec<u8>,
+}
+
+// Where the octets of a place begin: there are eight records of four places.
+fn start_of(record: usize, place: usize) -> usize {
+    (record % 8 * 4 + place % 4) * PLACE
+}
+
+// Copies octets to a place of a room, if they fit there.
+fn copy_to(room: &mut [u8], start: usize, octets: &[u8]) {
+    if let Some(part) = room.get_mut(start..start.saturating_add(octets.len())) {
+        part.copy_from_slice(octets);
+    }
+}
+
+impl Held {
+    // All are 0, and were.
+    pub fn new(alloc: Global) -> Result<Held, AllocError> {
+        Ok(Held {
+            octets: vec![in alloc; 0; MOST]?,
+            before: vec![in alloc; 0; MOST]?,
+        })
+    }
+
+    // The first n.
+    pub fn lend(&mut self, n: usize) -> &mut [u8] {
+        let n = n.min(self.octets.len());
+        &mut self.octets[..n]
+    }
+
+    // Stores contents into a place, as many as fit.
+    pub fn store(&mut self, record: usize, place: usize, contents: &[u8]) {
+        let start = start_of(record, place);
+        let stored = &contents[..contents.len().min(PLACE)];
+        copy_to(self.octets.as_mut_slice(), start, stored);
+        copy_to(self.before.as_mut_slice(), start, stored);
+    }
+
+    // The first octets of a place may be others than before.
+    pub fn allow(&mut self, record: usize, place: usize, len: usize) {
+        let start = start_of(record, place);
+        if let Some(octets) = self.octets.as_slice().get(start..start.saturating_add(len)) {
+            copy_to(self.before.as_mut_slice(), start, octets);
         }
-        i += 1;
     }
-    Number::Wrong
-}
 
-// Whether each of the first n held octets is what it was.
-fn is_kept(held: &[u8; HELD], n: usize) -> bool {
-    let end = lent_of(n, ROOM);
-    let mut same = true;
-    let mut i: usize = 0;
-    while i < end {
-        same = same & (held[i] == held[i + ROOM]);
-        i += 1;
-    }
-    same
-}
-
-// The first of the n held octets that is not what it was.
-pub fn first_differing(held: &[u8; HELD], n: usize) -> Number {
-    if is_kept(held, n) {
-        return Number::Wrong;
-    }
-    let mut i: usize = 0;
-    while i < n {
-        if peek(held, i) != peek(held, plus(i, ROOM)) {
-            return Number::Value(i);
+    // The first of the n octets that is not what it was. They are compared whole first, which is much faster.
+    pub fn first_changed(&self, n: usize) -> Option<usize> {
+        let now = self.octets.as_slice().get(..n)?;
+        let before = self.before.as_slice().get(..n)?;
+        if now == before {
+            return None;
         }
-        i += 1;
-    }
-    Number::Wrong
-}
-
-// The octets from `from` up to `to` are from now on what they are.
-pub fn agree_on(held: &mut [u8; HELD], from: usize, to: usize) {
-    let mut i = from;
-    while i < to {
-        if ROOM <= i {
-            return;
-        }
-        held[i + ROOM] = held[i];
-        i += 1;
-    }
-}
-
-// All held octets are 0, and were.
-pub fn clear_held(held: &mut [u8; HELD]) {
-    let mut i: usize = 0;
-    while i < HELD {
-        held[i] = 0;
-        i += 1;
-    }
-}
-
-// The held octet at i is b, and was.
-fn keep_octet(held: &mut [u8; HELD], i: usize, b: u8) {
-    if ROOM <= i {
-        return;
-    }
-    held[i] = b;
-    held[i + ROOM] = b;
-}
-
-// Stores contents into a place, as many as fit.
-pub fn store_contents(held: &mut [u8; HELD], place: usize, contents: &[u8]) {
-    let from = place % 32 * MOST;
-    let mut k: usize = 0;
-    while k < MOST {
-        if contents.len() <= k {
-            return;
-        }
-        keep_octet(held, from + k, contents[k]);
-        k += 1;
+        now.iter().zip(before).position(|(a, b)| a != b)
     }
 }

@@ -1,58 +1,64 @@
-// The lines that set a record or a place: what they say goes into the rows, and contents into the held octets.
-use crate::lent::{HELD, store_contents};
-use case_forms::kinds::{FREE, RECORD};
-use case_forms::{OCTETS, OURS_MOST, VALUES, value_at};
-use case_rows::{PHASE, ROWS, USED, place_field, set_field};
-use case_text::{less, part};
+// What the lines of a case set up for its steps.
+use crate::lent::{Held, Lent, RIGHT};
+use case_forms::lines::SetPlace;
+use case_forms::records::write_changes;
+use record::Record;
+use std::alloc::{AllocError, Global};
+use table::free_table;
 
-// A record's values are in the order of its row, but that the first is its index.
-fn set_record(rows: &mut [u64; ROWS], values: &[u64; VALUES]) {
-    let i = value_at(values, 0) as usize;
-    set_field(rows, i, USED, 1);
-    let mut k: usize = 1;
-    while k <= PHASE + 2 {
-        set_field(rows, i, k, value_at(values, k));
-        k += 1;
+#[derive(Drop)]
+pub struct Setting {
+    pub alloc: Global,
+    pub table: [Record; 8],
+    pub held: Held,
+    // Our CID.
+    pub ours: Vec<u8>,
+    pub lent: Lent,
+}
+
+impl Setting {
+    // What a case starts with.
+    pub fn new(alloc: Global) -> Result<Setting, AllocError> {
+        Ok(Setting {
+            alloc,
+            table: free_table(),
+            held: Held::new(alloc)?,
+            ours: vec![in alloc; 0; 16]?,
+            lent: RIGHT,
+        })
     }
-}
 
-fn set_free(rows: &mut [u64; ROWS], values: &[u64; VALUES]) {
-    set_field(rows, value_at(values, 0) as usize, USED, 0);
-}
+    // Sets a record and marks it used. Its places stay.
+    pub fn set_record(&mut self, i: usize, to: Record) {
+        if let Some(record) = self.table.get_mut(i) {
+            *record = Record {
+                places: record.places,
+                ..to
+            };
+        }
+    }
 
-// The numbers of place j of record i, with so many octets.
-fn set_numbers(rows: &mut [u64; ROWS], values: &[u64; VALUES], i: usize, j: usize, len: usize) {
-    set_field(rows, i, place_field(j, 0), 1);
-    set_field(rows, i, place_field(j, 1), value_at(values, 2));
-    set_field(rows, i, place_field(j, 2), value_at(values, 3));
-    set_field(rows, i, place_field(j, 3), len as u64);
-}
+    // Marks a record free, all else as it was.
+    pub fn free(&mut self, i: usize) {
+        if let Some(record) = self.table.get_mut(i) {
+            record.used = false;
+        }
+    }
 
-fn set_place(
-    rows: &mut [u64; ROWS],
-    held: &mut [u8; HELD],
-    values: &[u64; VALUES],
-    octets: &[u8; OCTETS],
-    end: usize,
-) {
-    let i = value_at(values, 0) as usize;
-    let j = value_at(values, 1) as usize;
-    set_numbers(rows, values, i, j, less(end, OURS_MOST));
-    store_contents(held, i % 8 * 4 + j % 4, part(octets, OURS_MOST, end));
-}
+    pub fn set_place(&mut self, to: &SetPlace) {
+        let Some(record) = self.table.get_mut(to.record) else {
+            return;
+        };
+        if let Some(place) = record.places.get_mut(to.place) {
+            *place = to.numbers;
+        }
+        self.held.store(to.record, to.place, to.contents.as_slice());
+    }
 
-// A line that sets a record, frees one or sets a place; `end` is the end of its octets.
-pub fn set_up(
-    kind: u8,
-    rows: &mut [u64; ROWS],
-    held: &mut [u8; HELD],
-    values: &[u64; VALUES],
-    octets: &[u8; OCTETS],
-    end: usize,
-) {
-    match kind {
-        RECORD => set_record(rows, values),
-        FREE => set_free(rows, values),
-        _ => set_place(rows, held, values, octets, end),
+    // Says each record that a call changed. Then its answer is the table.
+    pub fn accept(&mut self, said: &mut String, answer: [Record; 8]) -> Result<(), AllocError> {
+        write_changes(said, &self.table, &answer)?;
+        self.table = answer;
+        Ok(())
     }
 }

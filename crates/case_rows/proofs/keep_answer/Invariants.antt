@@ -1,6 +1,0 @@
--- `keep_answer` is safe and ends: there are eight records. Assumes nothing.
-use Rattle.std.proofs.Common.{◌-◌}
-use Rattle.case_rows.proofs.keep_answer.Given as goal
-
-abbrev pub decreases-loop-i : goal.decreases-loop-i
-decreases-loop-i l = 8 - l.i

@@ -1,6 +1,0 @@
--- `set_values` is safe and ends: each turn sets one value. Assumes nothing.
-use Rattle.std.proofs.Common.{◌-◌, length}
-use Rattle.case_rows.proofs.messages.set_values.Given as goal
-
-abbrev pub decreases-loop-i : goal.decreases-loop-i
-decreases-loop-i l = length l.some - l.i

@@ -1,5 +1,0 @@
--- `is_same_line` is safe and ends: each turn spends one of the turns that there are. Assumes nothing.
-use Rattle.case_text.proofs.is_same_line.Given as goal
-
-abbrev pub decreases-loop-turns : goal.decreases-loop-turns
-decreases-loop-turns l = l.turns
