@@ -1,4 +1,3 @@
 -- What the proofs of `asking` share, and its law.
-pub mod Answers
 pub mod Wrappers
 pub mod Steps

@@ -35,6 +35,7 @@ fn arrived_of(reliably: bool, w: Wrapper, len: u16) -> Arrived
 }
 
 // Refusals 6 and 7 of a wrapper with contents of `len` octets.
+#[tactic(auto, unfolding(crate::specs::Asking::wrapper_asks))]
 fn wrapper_asks(
     table: [Record; 8],
     sender: Cid,
@@ -66,6 +67,7 @@ fn join_asks(ours: Cid, j: Join) -> Result<Asked, Refusal>
 }
 
 // Refusals 4 to 7. An ACK is not a base message.
+#[tactic(auto, using(crate::proofs::Wrappers::lengths), unfolding(crate::specs::Asking::asked_of))]
 pub fn asks(
     table: [Record; 8],
     sender: Cid,
