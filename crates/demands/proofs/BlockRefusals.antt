@@ -11,42 +11,35 @@ use mathlib.Core.List.{List}
 use lib.ListN.{length}
 use lib.Dec.{ltb}
 use borrow.Author.Tests.{ltb-true, ltb-false, lt-ltb, le-ltb}
+use Rattle.std.specs.Prelude.{Option, Some, None, Ok, Err}
+use Rattle.refusal.specs.declared.Refusal.TheVariants as refusal
 use Rattle.block.specs.Pdu.{pdu_at}
-use Rattle.block.specs.Block.{most_block, nothing, Parsed, broken, messages, with, onward, parse_from, parse, read_block}
+use Rattle.block.specs.Block.{most_block, nothing, Parsed, with, onward, parse_from, parse, read_block}
 use Rattle.block.specs.Cursor.{opened_of, open_block}
 use Rattle.block.specs.declared.Found.{Found}
-use Rattle.block.specs.declared.Pdu.{Pdu}
-use Rattle.block.specs.declared.Pdu.TheVariants.{Whole, Bad}
-use Rattle.block.specs.declared.BlockRead.TheVariants.{TooLong, Malformed}
-use Rattle.block.specs.declared.Opened.{Opened}
-use Rattle.block.specs.declared.Opened.TheVariants as opened
+use Rattle.block.specs.declared.Whole.{Whole}
+use Rattle.block.proofs.Sound.{whole_within}
+use Rattle.block.proofs.InTurn.{refusal_agrees}
+use Rattle.record.proofs.Choices.{never}
 use Rattle.demands.specs.Blocks.{FirstBad, here, later}
-use Rattle.block.proofs.Whole.{whole_within}
-use Rattle.block.proofs.InTurn.{long_agrees, malformed_agrees}
 
 -- what is said of the PDUs from a place on: if they are broken, the first malformed one of them begins there
 abbrev Stops : List ℕ → ℕ → Found → Parsed → Type 0
-Stops s at before (broken p) = FirstBad s at before p
-Stops s at before (messages ms) = Unit
-
--- what an answer says of the block
-abbrev Why : List ℕ → Opened → Type 0
-Why s (opened.Messages count cursor) = Unit
-Why s opened.TooLong = most_block < length s
-Why s (opened.Malformed p) = (length s ≤ most_block) × FirstBad s 0 nothing p
+Stops s at before (Err p) = FirstBad s at before p
+Stops s at before (Ok ms) = Unit
 
 module _ (s : List ℕ) where
   -- ---- from the answer to the PDUs
 
-  behind : (at : ℕ) (before m : Found) (next : ℕ) (rest : Parsed) → at < length s → pdu_at s at before ≡ Whole m next → Stops s next m rest
-      → Stops s at before (with m rest)
-  behind at before m next (broken p) h e f = later at before m next p h e f
-  behind at before m next (messages ms) h e f = tt
+  behind : (at : ℕ) (before : Found) (w : Whole) (rest : Parsed) → at < length s → pdu_at s at before ≡ Some w → Stops s w.next w.found rest
+      → Stops s at before (with w.found rest)
+  behind at before w (Err p) h e f = later at before w.found w.next p h e f
+  behind at before w (Ok ms) h e f = tt
 
-  stop : (at : ℕ) (before : Found) (rest : Found → ℕ → Parsed) (p : Pdu) → at < length s → pdu_at s at before ≡ p
+  stop : (at : ℕ) (before : Found) (rest : Found → ℕ → Parsed) (p : Option Whole) → at < length s → pdu_at s at before ≡ p
       → ((m : Found) (next : ℕ) → Stops s next m (rest m next)) → Stops s at before (onward at p rest)
-  stop at before rest Bad h e on = here at before h e
-  stop at before rest (Whole m next) h e on = behind at before m next (rest m next) h e (on m next)
+  stop at before rest None h e on = here at before h e
+  stop at before rest (Some w) h e on = behind at before w (rest w.found w.next) h e (on w.found w.next)
 
   stops : (k at : ℕ) (before : Found) (t : Bool) → ltb at (length s) ≡ t → Stops s at before (parse_from k s at before)
   unfolding parse_from
@@ -61,23 +54,26 @@ module _ (s : List ℕ) where
   unfolding parse
   parse_stops = stops (length s) 0 nothing (ltb 0 (length s)) refl
 
-  opened_why : (r : Parsed) → length s ≤ most_block → Stops s 0 nothing r → Why s (opened_of r)
+  -- what the answer says of the block, by the test of its length and what it says
+  long_why : (t : Bool) (r : Parsed) → ltb most_block (length s) ≡ t → cond t (Err refusal.WrongSize) (opened_of r) ≡ Err refusal.WrongSize
+      → most_block < length s
   unfolding opened_of
-  opened_why (broken p) h f = (h, f)
-  opened_why (messages ms) h f = tt
+  long_why true r l e = ltb-true most_block (length s) l
+  long_why false (Err q) l e = never (cc)
+  long_why false (Ok ms) l e = never (cc)
 
-  why : Why s (open_block s)
-  unfolding open_block
-  why = by (ltb most_block (length s)) refl
-    where
-      by : (t : Bool) → ltb most_block (length s) ≡ t → Why s (cond t opened.TooLong (opened_of (parse s)))
-      by true e = ltb-true most_block (length s) e
-      by false e = opened_why (parse s) (ltb-false most_block (length s) e) parse_stops
+  bad_why : (p : ℕ) (t : Bool) (r : Parsed) → ltb most_block (length s) ≡ t → Stops s 0 nothing r
+      → cond t (Err refusal.WrongSize) (opened_of r) ≡ Err (refusal.Malformed p)
+      → (length s ≤ most_block) × FirstBad s 0 nothing p
+  unfolding opened_of
+  bad_why p true r l f e = never (cc)
+  bad_why p false (Err q) l f e = let same : q ≡ p = cc in (ltb-false most_block (length s) l, rw same at f)
+  bad_why p false (Ok ms) l f e = never (cc)
 
   -- ---- from the PDUs to the answer
 
   -- a whole PDU ends behind its first octet, so a bound that reaches the block's end is enough for those that lead to the malformed one
-  breaks : {at : ℕ} {before : Found} {p : ℕ} (k : ℕ) → FirstBad s at before p → length s ≤ at + k → parse_from k s at before ≡ broken p
+  breaks : {at : ℕ} {before : Found} {p : ℕ} (k : ℕ) → FirstBad s at before p → length s ≤ at + k → parse_from k s at before ≡ Err p
   unfolding parse_from
   breaks zero (here at before h e) l = absurd (omega arith)
   breaks zero (later at before m next p h e f) l = absurd (omega arith)
@@ -86,30 +82,28 @@ module _ (s : List ℕ) where
       let w = whole_within s at before e in
       rw (lt-ltb at (length s) h, e) (ap (with m) (breaks k f (omega arith)))
 
-  parse_breaks : {p : ℕ} → FirstBad s 0 nothing p → parse s ≡ broken p
+  parse_breaks : {p : ℕ} → FirstBad s 0 nothing p → parse s ≡ Err p
   unfolding parse
   parse_breaks f = breaks (length s) f (omega arith)
 
-  long_refused : most_block < length s → open_block s ≡ opened.TooLong
+  -- ---- each refusal exactly if its condition holds and no earlier one
+
+  pub open_too_long : (open_block s ≡ Err refusal.WrongSize) ↔ (most_block < length s)
   unfolding open_block
-  long_refused h = rw (lt-ltb most_block (length s) h)
+  open_too_long = (long_why (ltb most_block (length s)) (parse s) refl, λ h. rw (lt-ltb most_block (length s) h))
 
-  bad_refused : {p : ℕ} → length s ≤ most_block → FirstBad s 0 nothing p → open_block s ≡ opened.Malformed p
+  pub open_malformed : (p : ℕ) → (open_block s ≡ Err (refusal.Malformed p)) ↔ ((length s ≤ most_block) × FirstBad s 0 nothing p)
   unfolding open_block opened_of
-  bad_refused h f = rw (le-ltb most_block (length s) h, parse_breaks f)
-
-  -- ---- each refusal exactly if its condition holds and no earlier one does
-
-  pub open_too_long : (open_block s ≡ opened.TooLong) ↔ (most_block < length s)
-  open_too_long = (λ e. rw e at why, long_refused)
-
-  pub open_malformed : (p : ℕ) → (open_block s ≡ opened.Malformed p) ↔ ((length s ≤ most_block) × FirstBad s 0 nothing p)
-  open_malformed p = (λ e. rw e at why, λ h. bad_refused h.0 h.1)
+  open_malformed p = (
+    bad_why p (ltb most_block (length s)) (parse s) refl parse_stops,
+    λ h. rw (le-ltb most_block (length s) h.0, parse_breaks h.1),
+  )
 
   -- 1: the block is too long
-  pub read_too_long : (position : ℕ) → (read_block s position ≡ TooLong) ↔ (most_block < length s)
-  read_too_long position = Iff.trans (Iff.symm (long_agrees s position)) open_too_long
+  pub read_too_long : (position : ℕ) → (read_block s position ≡ Err refusal.WrongSize) ↔ (most_block < length s)
+  read_too_long position = Iff.trans (Iff.symm (refusal_agrees s position refusal.WrongSize)) open_too_long
 
   -- 11: some PDU of the block is malformed; the place is that of the first such
-  pub read_malformed : (position p : ℕ) → (read_block s position ≡ Malformed p) ↔ ((length s ≤ most_block) × FirstBad s 0 nothing p)
-  read_malformed position p = Iff.trans (Iff.symm (malformed_agrees s position p)) (open_malformed p)
+  pub read_malformed : (position p : ℕ)
+      → (read_block s position ≡ Err (refusal.Malformed p)) ↔ ((length s ≤ most_block) × FirstBad s 0 nothing p)
+  read_malformed position p = Iff.trans (Iff.symm (refusal_agrees s position (refusal.Malformed p))) (open_malformed p)

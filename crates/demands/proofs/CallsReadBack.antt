@@ -3,118 +3,70 @@
 -- All sizes lent and all tables are meant, refused ones too. Assumes what the machine's types say: the counters and names of the table's records have the
 -- widths of their fields (`Wide`), a CID and data are octets, and a reciprocal channel number has two octets. The example at the end meets that.
 use Prim.Native.Nat.{ℕ, ◌<◌}
-use mathlib.Core.Bool.{Bool, true, false, cond, not}
+use mathlib.Core.Bool.{false}
 use mathlib.Core.List.{List, [], ◌∷◌}
 use mathlib.Core.Path.{◌≡◌, refl, sym, subst}
-use lib.Dec.{ltb, eqb, lit<}
+use lib.Dec.{lit<}
 use lib.ListN.{length, replicate, get_or-map}
-use borrow.Author.Tests.{eqb-true}
+use Rattle.std.specs.Prelude.{Option, Some, None, is_some}
 use Rattle.octets.specs.Octets.{number, Octets as Bytes}
-use Rattle.message.specs.Lengths.{reliable_wrapper}
-use Rattle.message.specs.Layouts.{cid_at, wrapper_of, join_of, reliable}
-use Rattle.message.specs.Reading.{contents}
+use Rattle.message.specs.Layouts.{cid_at, join_of, reliable}
 use Rattle.message.specs.declared.Cid.{Cid}
 use Rattle.message.specs.declared.Join.{Join}
-use Rattle.message.specs.declared.Wrapper.{Wrapper}
 use Rattle.record.specs.Reasons.{leaving_reason}
-use Rattle.record.specs.WellFormed.{most_contents}
 use Rattle.record.specs.declared.Record.{Record}
 use Rattle.gap.specs.Elapsed.{gives, elapsed_of, phased, in_standoff}
 use Rattle.gap.specs.declared.Elapsed.{Elapsed}
 use Rattle.gap.specs.declared.Event.TheVariants as event
 use Rattle.gap.specs.Range.{nearer, nearest, nak_first, nak_last}
 use Rattle.gap.specs.declared.Event.{Event}
-use Rattle.wrapper.specs.Taken.{stepped}
-use Rattle.wrapper.specs.declared.Arrived.{Arrived}
-use Rattle.wrapper.specs.declared.Plan.{Plan}
 use Rattle.joining.specs.Replies.{departure, missing}
-use Rattle.table.specs.Table.{same, found, lowest_free, table_formed, blank, record_at, named}
-use Rattle.table.specs.declared.Found.{Found}
-use Rattle.table.specs.declared.Found.TheVariants as search
+use Rattle.table.specs.Table.{same, found, lowest_free, blank, record_at, named}
 use Rattle.table.proofs.Finding.{found_at_lem}
 use Rattle.writing.specs.Fits.{Octets}
-use Rattle.sending.specs.Sent.{reply_of, event_of}
-use Rattle.carry.proofs.PlanFits.{stepped_taken}
+use Rattle.sending.specs.Sent.{event_of}
 use Rattle.carry.proofs.DeliveredLength.{each_at}
-use Rattle.asking.specs.Asking.{arrived_of, wrapper_for, wrapper_asks, join_asks}
-use Rattle.asking.specs.declared.Asked.{Asked}
-use Rattle.member.specs.Sizes.{deliver_size, reply_size, message_sizes, elapsed_sizes, leave_sizes, cells_size}
-use Rattle.member.specs.Messages.{Outcome, refused_message, existing_at, is_found, join_outcome, plan_outcome, wrapper_outcome, asked_outcome, message_outcome}
-use Rattle.member.specs.Elapsing.{longest, Passing, refused_elapsed, passing, elapsed_outcome, sent_by}
-use Rattle.member.specs.Leaving.{Departing, refused_leave, departing, leave_for, leave_outcome}
-use Rattle.demands.specs.Calls.{Sound, Both}
+use Rattle.member.specs.Sizes.{deliver_size, reply_size, elapsed_sizes, leave_sizes, cells_size}
+use Rattle.member.specs.Messages.{existing_at, join_outcome, plan_outcome, message_outcome}
+use Rattle.member.specs.Elapsing.{elapsed_outcome, sent_by}
+use Rattle.member.specs.Leaving.{departing, leave_outcome}
+use Rattle.demands.specs.Calls.{Sound}
 use Rattle.demands.specs.Channel.{entry_at}
-use Rattle.demands.specs.ReadBack.{ReadFrom, reply_means, event_means, given_means, leave_means, FitTerms, FitAsked, FitExisting, Wide}
-use Rattle.demands.proofs.Lemmas.Asks as asks
-use Rattle.demands.proofs.Lemmas.Asks.{Asks}
-use Rattle.record.proofs.Choices.{either}
+use Rattle.demands.specs.ReadBack.{ReadFrom, event_means, given_means, leave_means, FitTerms, FitExisting, Wide}
+use Rattle.demands.proofs.Lemmas.OneStep.{brought}
+use Rattle.demands.proofs.Lemmas.Outcomes.{message_cases, leave_cases, elapsed_cases}
 use Rattle.demands.proofs.Lemmas.Brought.{wrapper_says}
 use Rattle.demands.proofs.Lemmas.Sample as sample
 use Rattle.demands.proofs.RepliesReadBack.{none_read, step_reply_read, elapsed_read, leave_read, decided_read, join_fits, existing_fits, terms_fit}
 
 -- ---- message calls
 
-abbrev Reads : List Record → Cid → Join → ℕ → Outcome → Type 0
-Reads ts o j n out = ReadFrom out.reply 0 (given_means ts o j n out.given)
-
-module _ (ts : List Record) (wide : Wide ts) (held : List ℕ) (o : Cid) (n : ℕ) where
-  -- what the table has for a Join
-  existing_at_lem : (c : ℕ) (f : Found) → found 0 o c ts ≡ f → FitExisting (existing_at ts f)
-  existing_at_lem c search.Nowhere e = tt
-  existing_at_lem c (search.At i) e =
-      let w = wide i (found_at_lem o c ts i e).0 in
-      existing_fits (record_at ts i) w.0 w.1
-
-  join_reads : (j : Join) → FitAsked o j → Octets 2 n → Reads ts o j n (join_outcome ts held o j n)
-  unfolding join_outcome
-  join_reads j f g =
-      decided_read o j (existing_at ts (found 0 o j.channel ts)) n (is_found (lowest_free 0 ts)) f g
-      (existing_at_lem j.channel (found 0 o j.channel ts) refl)
-
-  step_reads : (j : Join) (k : ℕ) (w : Arrived) (c : List ℕ) → k < length ts → Both w.total w.reliable
-      → Reads ts o j n (wrapper_outcome ts held k w c)
-  unfolding wrapper_outcome plan_outcome
-  step_reads j k w c l b = by (eqb (stepped (record_at ts k) w).number 0) refl
-    where
-      by : (x : Bool) → eqb (stepped (record_at ts k) w).number 0 ≡ x
-          → Reads ts o j n
-          (cond x (plan_outcome ts held k w c (stepped (record_at ts k) w).plan) (refused_message ts held (stepped (record_at ts k) w).number))
-      by true e =
-          subst (λ (p : Plan). ReadFrom (reply_of p.after.terms p.reply) 0 (reply_means (record_at ts k).terms p.reply))
-          (sym (stepped_taken (record_at ts k) w (eqb-true (stepped (record_at ts k) w).number 0 e)))
-          (step_reply_read (record_at ts k) w (wide k l).0 (wide k l).1 b)
-      by false e = none_read
-
-  wrapper_reads : (j : Join) (reliably : Bool) (w : Wrapper) (len : ℕ) (c : List ℕ) → Both w.total w.reliable
-      → (f : Found) → found 0 o w.channel ts ≡ f → Reads ts o j n (asked_outcome ts held o n c (wrapper_for f reliably w len))
-  wrapper_reads j reliably w len c b search.Nowhere e = none_read
-  wrapper_reads j reliably w len c b (search.At k) e =
-      either (λ (a : Asked). Reads ts o j n (asked_outcome ts held o n c a)) (ltb most_contents len) _ _ none_read
-      (step_reads j k (arrived_of reliably w len) c (found_at_lem o w.channel ts k e).0 b)
-
-  asked_reads : (ours : Cid) (v : ℕ) (d : List ℕ) → Bytes d → FitAsked o (join_of d) → Octets 2 n → {a : Asked} → Asks ts o ours v d a
-      → Reads ts o (join_of d) n (asked_outcome ts held o n (contents d) a)
-  unfolding join_asks wrapper_asks
-  asked_reads ours v d b f g (asks.refuses k) = none_read
-  asked_reads ours v d b f g (asks.joins r e) =
-      either (λ (a : Asked). Reads ts o (join_of d) n (asked_outcome ts held o n (contents d) a)) (same (join_of d).cid ours) _ _
-      (join_reads (join_of d) f g)
-      none_read
-  asked_reads ours v d b f g (asks.wraps r w) =
-      wrapper_reads (join_of d) (eqb v reliable_wrapper) (wrapper_of d) (length (contents d)) (contents d) (wrapper_says v d b)
-      (found 0 o (wrapper_of d).channel ts) refl
-
 -- the octets of the reply to a message are read as what the answer says
 pub message_replies : (ts : List Record) (held : List ℕ) (deliver reply : ℕ) (sender ours : List ℕ) (v : ℕ) (d : List ℕ) (n : ℕ)
     → Wide ts → Bytes sender → Bytes d → Octets 2 n
     → ReadFrom (message_outcome ts held deliver reply sender ours v d n).reply 0
     (given_means ts (cid_at sender 0) (join_of d) n (message_outcome ts held deliver reply sender ours v d n).given)
-unfolding message_outcome
+unfolding join_outcome plan_outcome
 message_replies ts held deliver reply sender ours v d n wide b c g =
-    let o = cid_at sender 0 in
-    either (Reads ts o (join_of d) n) (not (message_sizes (length ts) (length held) deliver reply (length sender) (length ours))) _ _ none_read
-    (either (Reads ts o (join_of d) n) (not (table_formed ts)) _ _ none_read
-    (asked_reads ts wide held o n (cid_at ours 0) v d c (join_fits sender d b c) g (asks.asks ts o (cid_at ours 0) v d)))
+    message_cases ts held deliver reply sender ours v d n (λ out. ReadFrom out.reply 0 (given_means ts o j n out.given)) (λ why. none_read)
+    (decided_read o j (existing_at ts (found o j.channel ts)) n (is_some (lowest_free ts)) (join_fits sender d b c) g
+    (known (found o j.channel ts) refl))
+    (λ sized i carries.
+    let w = wide i carries.within in
+    step_reply_read (record_at ts i) (brought v d) w.0 w.1 (wrapper_says v d c))
+  where
+    o : Cid
+    o = cid_at sender 0
+
+    j : Join
+    j = join_of d
+
+    -- what the table has for the Join
+    known : (f : Option ℕ) → found o j.channel ts ≡ f → FitExisting (existing_at ts f)
+    known None e = tt
+    known (Some i) e =
+        let w = wide i (found_at_lem o j.channel ts i e).0 in
+        existing_fits (record_at ts i) w.0 w.1
 
 -- ---- elapsed calls
 
@@ -122,44 +74,25 @@ message_replies ts held deliver reply sender ours v d n wide b c g =
 pub elapsed_sends : (ts : List Record) (cells ms i : ℕ) → Wide ts → i < length ts
     → ReadFrom (sent_by (entry_at (elapsed_outcome ts cells ms) i)) 0
     (event_means (record_at ts i).terms (entry_at (elapsed_outcome ts cells ms) i).event)
-unfolding elapsed_outcome elapsed_of event_of
+unfolding elapsed_of event_of
 elapsed_sends ts cells ms i wide l =
-    either Sent (not (elapsed_sizes (length ts) cells)) _ _ (stands 1)
-    (either Sent (not (table_formed ts)) _ _ (stands 2) (either Sent (ltb longest ms) _ _ (stands 3) goes))
+    elapsed_cases ts cells ms (λ p. Of (entry_at p i))
+    (λ why. subst Of (sym (get_or-map (λ (r : Record). gives r event.Nothing) ts i (blank []))) none_read)
+    (subst Of (sym (get_or-map (λ (r : Record). elapsed_of r ms) ts i (blank []))) (elapsed_read (record_at ts i) ms (wide i l).0 (wide i l).1))
   where
     Of : Elapsed → Type 0
     Of e = ReadFrom (sent_by e) 0 (event_means (record_at ts i).terms e.event)
 
-    Sent : Passing → Type 0
-    Sent p = Of (entry_at p i)
-
-    stands : (k : ℕ) → Sent (refused_elapsed ts k)
-    stands k = subst Of (sym (get_or-map (λ (r : Record). gives r event.Nothing) ts i (blank []))) none_read
-
-    goes : Sent (passing ts ms)
-    goes =
-        subst Of (sym (get_or-map (λ (r : Record). elapsed_of r ms) ts i (blank [])))
-        (elapsed_read (record_at ts i) ms (wide i l).0 (wide i l).1)
-
 -- ---- leave calls
 
 pub leave_replies : (ts : List Record) (reply : ℕ) (owner : List ℕ) (channel reason : ℕ) → Wide ts
-    → ReadFrom (leave_outcome ts reply owner channel reason).reply 0 (leave_means ts reason (leave_outcome ts reply owner channel reason))
-unfolding leave_outcome departing
+    → ReadFrom (leave_outcome ts reply owner channel reason).reply 0 (leave_means ts reason (leave_outcome ts reply owner channel reason).given)
+unfolding departing
 leave_replies ts reply owner channel reason wide =
-    either Sent (not (leave_sizes (length ts) reply (length owner))) _ _ none_read
-    (either Sent (not (table_formed ts)) _ _ none_read (by (found 0 (cid_at owner 0) channel ts) refl))
-  where
-    Sent : Departing → Type 0
-    Sent p = ReadFrom p.reply 0 (leave_means ts reason p)
-
-    on : (i : ℕ) → i < length ts → (b : Bool) → leaving_reason reason ≡ b → Sent (cond b (departing ts i reason) (refused_leave ts 10))
-    on i l true e = leave_read (record_at ts i) reason (wide i l).0 (wide i l).1 e
-    on i l false e = none_read
-
-    by : (f : Found) → found 0 (cid_at owner 0) channel ts ≡ f → Sent (leave_for ts reason f)
-    by search.Nowhere e = none_read
-    by (search.At i) e = on i (found_at_lem (cid_at owner 0) channel ts i e).0 (leaving_reason reason) refl
+    leave_cases ts reply owner channel reason (λ p. ReadFrom p.reply 0 (leave_means ts reason p.given)) (λ why. none_read)
+    (λ i l e r.
+    let w = wide i (found_at_lem (cid_at owner 0) channel ts i e).0 in
+    leave_read (record_at ts i) reason w.0 w.1 r)
 
 -- ---- examples: the table in which record 2 has channel 7 of the first owner, and on it the second owner's Join to channel 7, elapsed time, and a leave call
 

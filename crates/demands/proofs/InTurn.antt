@@ -8,30 +8,29 @@
 -- What does not follow: a total may be met again after two steps of almost half a turn and a short third one, since a total is only compared with
 -- the one before it.
 use Prim.Native.Nat.{ℕ, zero, suc, ◌+◌, ◌%◌, ◌<◌, ◌≤◌}
-use mathlib.Core.Bool.{Bool, true, false, cond, not}
+use mathlib.Core.Bool.{Bool, true, false, cond}
 use mathlib.Core.List.{List, [], ◌∷◌, ◌++◌, map}
 use mathlib.Core.Logic.{◌⊎◌, inl, inr, ◌≢◌}
 use mathlib.Core.Path.{◌≡◌, refl, sym, ap, ap₂, subst, ◌∙◌}
 use native.Mathlib.Omega.{arith}
-use lib.Dec.{ltb, eqb, lit≤, lit<}
+use lib.Dec.{lit≤, lit<}
 use lib.IntN.{pos}
 use lib.ListN.{length, get_or, take, set, replicate}
+use Rattle.std.specs.Prelude.{Option, Some, None, Ok}
 use Rattle.octets.specs.Octets.{number}
 use Rattle.counter.specs.Distance.{turn, ahead, distance}
 use Rattle.counter.specs.Steps.{next}
 use Rattle.counter.proofs.Distances.{ahead_turn, ahead_is, distance_zero}
 use Rattle.counter.specs.declared.Total.{Total}
 use Rattle.counter.specs.declared.Reliable.{Reliable}
-use Rattle.message.specs.Lengths.{reliable_wrapper, look, length_of}
+use Rattle.message.specs.Lengths.{look, length_of}
 use Rattle.message.specs.Layouts.{total, reliable, cid_at, wrapper_of, parameters_at, address_of, join_of}
 use Rattle.message.specs.Reading.{readable_join, readable, message_of, read_message, contents}
 use Rattle.message.specs.declared.Cid.{Cid}
 use Rattle.message.specs.declared.Join.{Join}
 use Rattle.message.specs.declared.Parameters.{Parameters}
-use Rattle.message.specs.declared.Wrapper.{Wrapper}
 use Rattle.record.specs.Legal.{legal_names, legal_parameters}
 use Rattle.record.specs.Profile.{min_expiry}
-use Rattle.record.specs.WellFormed.{most_contents}
 use Rattle.record.specs.declared.Place.{Place}
 use Rattle.record.specs.declared.Record.{Record}
 use Rattle.gap.specs.Elapsed.{elapsed_of}
@@ -40,7 +39,7 @@ use Rattle.gap.proofs.Moves.{Move, stands, expires, lost, goes_on, moves}
 use Rattle.wrapper.specs.Judge.{heard}
 use Rattle.wrapper.specs.Hold.{placed}
 use Rattle.record.specs.Places.{no_place}
-use Rattle.wrapper.specs.Taken.{taken, stepped}
+use Rattle.wrapper.specs.Taken.{taken}
 use Rattle.wrapper.specs.declared.Arrived.{Arrived}
 use Rattle.wrapper.specs.declared.Fate.{Fate}
 use Rattle.wrapper.specs.declared.Fate.TheVariants as fate
@@ -50,17 +49,14 @@ use Rattle.wrapper.specs.Since.{Freed}
 use Rattle.joining.specs.Joining.{legal_block, legal, decide_new, decided, new_record}
 use Rattle.joining.specs.declared.Decision.{Decision}
 use Rattle.joining.specs.declared.Decision.TheVariants as decision
-use Rattle.table.specs.Table.{same, named, found, lowest_free, table_formed, record_at}
-use Rattle.table.specs.declared.Found.{Found}
-use Rattle.table.specs.declared.Found.TheVariants as search
+use Rattle.table.specs.Table.{same, named, found, lowest_free, record_at}
 use Rattle.table.proofs.Finding.{found_at_lem, free_at}
 use Rattle.table.proofs.Tables as tables
 use Rattle.carry.specs.Carried.{Delivered, held_after, at_once, from_place, from_places, delivered_by}
 use Rattle.carry.proofs.PlanFits.{taking}
-use Rattle.asking.specs.Asking.{arrived_of, wrapper_for, wrapper_asks, join_asks, asked_of}
-use Rattle.asking.specs.declared.Asked.{Asked}
+use Rattle.asking.specs.Asking.{join_asks, asked_of}
 use Rattle.member.specs.Sizes.{table_size, held_size, deliver_size, reply_size, message_sizes}
-use Rattle.member.specs.Messages.{Outcome, refused_message, existing_at, is_found, join_done, join_outcome, plan_outcome, wrapper_outcome, asked_outcome, message_outcome}
+use Rattle.member.specs.Messages.{Outcome, join_done, join_outcome, plan_outcome, message_outcome}
 use Rattle.member.specs.declared.Given.TheVariants as given
 use Rattle.demands.specs.Runs.{Came, run, own_of, shown, Each, none, more}
 use Rattle.demands.specs.Calls as calls
@@ -68,10 +64,9 @@ use Rattle.demands.specs.Calls.{Call, State, table_step, Sound, Lawful, Right}
 use Rattle.demands.specs.Channel.{Channel, Told, own, one, live, channel_at, view_at, planned, elapsed_on, names, is_cid}
 use Rattle.demands.specs.Order.{delivered_in, delivered_all, InTurn, reliable_numbers, following, BroughtBy, here, later, From, received, kept, Makes, makes}
 use Rattle.demands.proofs.Lemmas.Running.{own_each, along}
+use Rattle.demands.proofs.Lemmas.Outcomes.{message_cases}
 use Rattle.demands.proofs.Lemmas.OneStep.{refuses, joins, brought, Does, answers, wraps, passes, leaves, does}
-use Rattle.demands.proofs.Lemmas.Asks as asks
-use Rattle.demands.proofs.Lemmas.Asks.{Asks}
-use Rattle.record.proofs.Choices.{either, never}
+use Rattle.record.proofs.Choices.{never}
 use Rattle.demands.proofs.Lemmas.OneMessage.{lent_length}
 use Rattle.demands.proofs.Lemmas.Brought.{wrapper_says}
 use Rattle.demands.proofs.TableStays.{table_stays}
@@ -260,62 +255,31 @@ delivered_once i owner channel s cs each joined a b most l h =
 
 -- ---- from the Join on
 
-module _ (ts : List Record) (i : ℕ) (p : Parameters) where
-  -- record i was made by this Join: it is the one of the table, and the one that is told of
-  abbrev Made : Cid → Join → ℕ → Outcome → Type 0
-  Made o j n out =
-      out.given ≡ given.Joined (search.At i) (decision.Make p)
-      → (out.table ≡ set ts i (new_record (record_at ts i) o j p n)) × (i < length ts)
+-- a call that is answered so made record i by the Join that it brings: it is the one of the table, and the one that is told of
+message_made : (ts : List Record) (i : ℕ) (p : Parameters) (held : List ℕ) (deliver reply : ℕ) (sender ours : List ℕ) (v : ℕ) (d : List ℕ) (n : ℕ)
+    → (message_outcome ts held deliver reply sender ours v d n).given ≡ Ok (given.Joined (Some i) (decision.Make p))
+    → ((message_outcome ts held deliver reply sender ours v d n).table
+    ≡ set ts i (new_record (record_at ts i) (cid_at sender 0) (join_of d) p n))
+    × (i < length ts)
+unfolding join_outcome plan_outcome
+message_made ts i p held deliver reply sender ours v d n =
+    message_cases ts held deliver reply sender ours v d n Made (λ why e. never (cc)) (joined_made _ (lowest_free ts) _ refl)
+    (λ sized k carries e. never (cc))
+  where
+    Made : Outcome → Type 0
+    Made out =
+        out.given ≡ Ok (given.Joined (Some i) (decision.Make p))
+        → (out.table ≡ set ts i (new_record (record_at ts i) (cid_at sender 0) (join_of d) p n)) × (i < length ts)
 
-  module _ (held : List ℕ) (o : Cid) (j : Join) (n : ℕ) where
-    refused_made : (k : ℕ) → Made o j n (refused_message ts held k)
-    refused_made k e = never (cc)
-
-    join_made : (known free : Found) (answer : Decision) → lowest_free 0 ts ≡ free → Made o j n (join_done ts held o j n known free answer)
-    join_made known free (decision.Refuse reason) f e = never (cc)
-    join_made known free (decision.Again r reciprocal) f e = never (cc)
-    join_made known search.Nowhere (decision.Make q) f e = never (cc)
-    join_made known (search.At k) (decision.Make q) f e =
+    joined_made : (known free : Option ℕ) (answer : Decision) → lowest_free ts ≡ free
+        → Made (join_done ts held (cid_at sender 0) (join_of d) n known free answer)
+    joined_made known free (decision.Refuse reason) f e = never (cc)
+    joined_made known free (decision.Again r reciprocal) f e = never (cc)
+    joined_made known None (decision.Make q) f e = never (cc)
+    joined_made known (Some k) (decision.Make q) f e =
         let at : k ≡ i = cc in
         let parameters : q ≡ p = cc in
         (rw (at, parameters), subst (λ (m : ℕ). m < length ts) at (free_at ts k f).0)
-
-    plan_made : (k : ℕ) (w : Arrived) (c : List ℕ) → Made o j n (wrapper_outcome ts held k w c)
-    unfolding wrapper_outcome plan_outcome
-    plan_made k w c =
-        either (Made o j n) (eqb (stepped (record_at ts k) w).number 0)
-        (plan_outcome ts held k w c (stepped (record_at ts k) w).plan)
-        (refused_message ts held (stepped (record_at ts k) w).number)
-        (λ e. never (cc))
-        (refused_made (stepped (record_at ts k) w).number)
-
-    wrapper_made : (f : Found) (b : Bool) (w : Wrapper) (len : ℕ) (c : List ℕ) → Made o j n (asked_outcome ts held o n c (wrapper_for f b w len))
-    wrapper_made search.Nowhere b w len c = refused_made 6
-    wrapper_made (search.At k) b w len c =
-        either (λ (a : Asked). Made o j n (asked_outcome ts held o n c a)) (ltb most_contents len) _ _ (refused_made 7) (plan_made k (arrived_of b w len) c)
-
-  asked_made : (held : List ℕ) (o ours : Cid) (v : ℕ) (d : List ℕ) (n : ℕ) {a : Asked} → Asks ts o ours v d a
-      → Made o (join_of d) n (asked_outcome ts held o n (contents d) a)
-  unfolding join_asks join_outcome wrapper_asks
-  asked_made held o ours v d n (asks.refuses k) = refused_made held o (join_of d) n k
-  asked_made held o ours v d n (asks.joins r e) =
-      either (λ (a : Asked). Made o (join_of d) n (asked_outcome ts held o n (contents d) a)) (same (join_of d).cid ours) _ _
-      (join_made held o (join_of d) n (found 0 o (join_of d).channel ts) (lowest_free 0 ts)
-      (decided (join_of d) (existing_at ts (found 0 o (join_of d).channel ts)) n (is_found (lowest_free 0 ts))) refl)
-      (refused_made held o (join_of d) n 5)
-  asked_made held o ours v d n (asks.wraps r w) =
-      wrapper_made held o (join_of d) n (found 0 o (wrapper_of d).channel ts) (eqb v reliable_wrapper) (wrapper_of d) (length (contents d)) (contents d)
-
-  message_made : (held : List ℕ) (deliver reply : ℕ) (sender ours : List ℕ) (v : ℕ) (d : List ℕ) (n : ℕ)
-      → Made (cid_at sender 0) (join_of d) n (message_outcome ts held deliver reply sender ours v d n)
-  unfolding message_outcome
-  message_made held deliver reply sender ours v d n =
-      let o = cid_at sender 0 in
-      either (Made o (join_of d) n) (not (message_sizes (length ts) (length held) deliver reply (length sender) (length ours))) _ _
-      (refused_made held o (join_of d) n 1)
-      (either (Made o (join_of d) n) (not (table_formed ts)) _ _
-      (refused_made held o (join_of d) n 2)
-      (asked_made held o (cid_at ours 0) v d n (asks.asks ts o (cid_at ours 0) v d)))
 
 -- the state that such a call leads to, and T and R of its record
 record Begins (i : ℕ) (owner : Cid) (channel : ℕ) (j : Join) (s : State) : Type 0 where
@@ -391,7 +355,7 @@ join_call = calls.message held_size deliver_size reply_size (sample.cid 3 4) (re
 -- it is made in the lowest free record
 pub makes_with : (lent : List ℕ) → length lent ≡ held_size
     → (message_outcome (sample.table_of sample.free) lent deliver_size reply_size (sample.cid 3 4) (replicate 16 0) 4 sample.join_data 9).given
-    ≡ given.Joined (search.At 0) (decision.Make (parameters_at sample.join_data 31))
+    ≡ Ok (given.Joined (Some 0) (decision.Make (parameters_at sample.join_data 31)))
 unfolding message_outcome message_sizes asked_of read_message readable readable_join length_of look message_of join_of address_of parameters_at join_asks join_outcome
     found lowest_free named same cid_at number decided decide_new legal legal_block legal_names legal_parameters min_expiry
 makes_with lent l = rw (l, (sample.joined_one).right.formed)

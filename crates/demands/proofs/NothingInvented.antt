@@ -12,6 +12,7 @@ use mathlib.Core.Path.{◌≡◌, refl, sym, ap, subst, ◌∙◌}
 use native.Mathlib.Omega.{arith}
 use lib.Dec.{eqb}
 use lib.ListN.{length, get_or, take}
+use Rattle.std.specs.Prelude.{None}
 use Rattle.counter.specs.Distance.{turn, ahead, distance}
 use Rattle.counter.specs.declared.Reliable.{Reliable}
 use Rattle.octets.specs.Octets.{number, part}
@@ -43,7 +44,6 @@ use Rattle.wrapper.specs.declared.Arrived.{Arrived}
 use Rattle.wrapper.specs.declared.Fate.{Fate}
 use Rattle.wrapper.specs.declared.Fate.TheVariants as fate
 use Rattle.wrapper.specs.declared.Plan.{Plan}
-use Rattle.wrapper.specs.declared.Search.TheVariants as search
 use Rattle.wrapper.specs.Since.{Freed}
 use Rattle.table.specs.Table.{same, record_at}
 use Rattle.sending.specs.Sent.{event_of}
@@ -86,7 +86,7 @@ held_reliable r w j e = by (next_one (heard r w.reliable) w) w.reliably refl e
     by : (next reliably : Bool) → w.reliably ≡ reliably
         → (cond next
         (record { after = with_numbers h w.total w.reliable; fate = fate.Delivered })
-        (put_in h w (cond reliably (cond (holds w.reliable h.places) search.Nowhere (lowest_free 0 h.places)) search.Nowhere))
+        (put_in h w (cond reliably (cond (holds w.reliable h.places) None (lowest_free h.places)) None))
         ).fate
         ≡ fate.Held j
         → w.reliably ≡ true

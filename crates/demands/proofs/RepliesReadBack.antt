@@ -13,6 +13,7 @@ use lib.Dec.{ltb, eqb, lit<, lit≤}
 use lib.ListN.{length, get_or, length-append}
 use lib.Seq.{take-nil}
 use borrow.Author.Tests.{ltb-true, ltb-false, ne_eqb}
+use Rattle.std.specs.Prelude.{Option, Some, None}
 use Rattle.octets.specs.Octets.{number, octets, Octets as Bytes}
 use Rattle.counter.specs.Distance.{turn}
 use Rattle.counter.specs.declared.Reliable.{Reliable}
@@ -31,27 +32,26 @@ use Rattle.message.specs.declared.Message.TheVariants as message
 use Rattle.message.specs.declared.Parameters.{Parameters}
 use Rattle.record.specs.Legal.{legal_names, legal_parameters}
 use Rattle.record.specs.Profile.{min_expiry}
-use Rattle.record.specs.Reasons.{lost_sequence, leaving_reason}
+use Rattle.record.specs.Reasons.{number_of, leaving_reason}
 use Rattle.record.specs.WellFormed.{closed}
 use Rattle.record.specs.declared.Gap.{Gap}
 use Rattle.record.specs.declared.Record.{Record}
+use Rattle.record.specs.declared.reasons.Reason.{Reason}
+use Rattle.record.specs.declared.reasons.Reason.TheVariants as reason
 use Rattle.record.specs.declared.Terms.{Terms}
 use Rattle.gap.specs.Elapsed.{in_standoff, phased, elapsed_of}
 use Rattle.gap.specs.Range.{nearer, nearest, end_by, nak_first, nak_last}
 use Rattle.gap.specs.declared.Elapsed.{Elapsed}
 use Rattle.gap.specs.declared.Event.{Event}
 use Rattle.gap.specs.declared.Event.TheVariants as event
-use Rattle.gap.specs.declared.Nearest.{Nearest}
-use Rattle.gap.specs.declared.Nearest.TheVariants as near
 use Rattle.gap.proofs.Moves.{Next, quiet, stands_on, asks, waits_on, once_more, Move, stands, expires, lost, goes_on, moves}
 use Rattle.gap.proofs.Stays.{terms_stay}
 use Rattle.wrapper.specs.Judge.{heard}
 use Rattle.wrapper.specs.Hold.{placed}
 use Rattle.wrapper.specs.Release.{released}
-use Rattle.wrapper.specs.Settle.{lost as isLost, gapped, asked, spared, acknowledged, settled}
+use Rattle.wrapper.specs.Settle.{lost as isLost, gapped, asked, spared, acknowledged, settled_by, settled}
 use Rattle.wrapper.specs.Taken.{taken}
 use Rattle.wrapper.specs.declared.Arrived.{Arrived}
-use Rattle.wrapper.specs.declared.Gapped.{Gapped}
 use Rattle.wrapper.specs.declared.Reply.{Reply}
 use Rattle.wrapper.specs.declared.Reply.TheVariants as reply
 use Rattle.wrapper.specs.declared.Settled.{Settled}
@@ -60,7 +60,6 @@ use Rattle.joining.specs.Replies.{member_at, asked_at, join_refuse_of, acceptanc
 use Rattle.joining.specs.declared.Decision.{Decision}
 use Rattle.joining.specs.declared.Decision.TheVariants as decision
 use Rattle.joining.specs.declared.Existing.{Existing}
-use Rattle.joining.specs.declared.Existing.TheVariants as existing
 use Rattle.writing.specs.Fields.{fields_of}
 use Rattle.writing.specs.Fits.{Octets, FitMembership, Fits}
 use Rattle.writing.specs.Writing.{vector_of, address_of, has_form, contents_of, pdu_of}
@@ -73,8 +72,6 @@ use Rattle.demands.proofs.Lemmas.Sounds.{taken_sound}
 use Rattle.demands.proofs.Lemmas.Brought.{number_short}
 use Rattle.demands.proofs.Lemmas.Kept.{terms_kept}
 use Rattle.demands.proofs.Lemmas.Sample as sample
-
--- ---- what is read from octets
 
 -- ---- messages written one behind the other
 
@@ -125,8 +122,6 @@ two_read m n fits form fits-n form-n =
     subst (λ (s : List ℕ). ReadFrom (sent_of m ++ s) 0 (m ∷ n ∷ [])) (append-nil (sent_of n))
     (read_at ps a few 0 m (lit< tt) refl fits form, (read_at ps a few 1 n (lit< tt) refl fits-n form-n, no_more ps a few 2 (lit≤ tt)))
 
--- ---- what a reply, an event and the answer to a Join mean
-
 -- ---- numbers of the width of their fields
 
 member_fits : (t : Terms) (r : Reliable) → FitTerms t → Octets 4 r.0 → FitMembership (member_at t r)
@@ -171,25 +166,30 @@ welcome_read owner j n f o =
     two_read (acceptance owner j j.reliable n) (message.Ack j.reliable) (asked_fits owner j j.reliable f f.reliable, o) refl
     f.reliable refl
 
+-- the number of a reason is an octet
+reason_octet : (x : Reason) → Octets 1 (number_of x)
+reason_octet reason.Nonspecific = lit< tt
+reason_octet other = lit< tt
+
 -- the reply of a wrapper's step
 pub reply_read : (t : Terms) (x : Reply) → FitTerms t → FitReply x → ReadFrom (reply_of t x) 0 (reply_means t x)
 unfolding reply_of
 reply_read t reply.Nothing f g = none_read
 reply_read t (reply.Ack r) f g = ack_read r g
-reply_read t (reply.Leaving reason r) f g = departure_read t r reason f g.1 g.0
+reply_read t (reply.Leaving reason r) f g = departure_read t r (number_of reason) f g (reason_octet reason)
 
 -- what elapsed time sends
 pub event_read : (t : Terms) (x : Event) → FitTerms t → FitEvent x → ReadFrom (event_of t x) 0 (event_means t x)
 unfolding event_of
 event_read t event.Nothing f g = none_read
 event_read t (event.Nak r first last outbound) f g = missing_read t r first last f g.0 g.1 g.2
-event_read t (event.Leaving reason r) f g = departure_read t r reason f g.1 g.0
+event_read t (event.Leaving reason r) f g = departure_read t r (number_of reason) f g (reason_octet reason)
 
 -- the reply to a Join, where n is the caller's reciprocal number
 pub join_reply_read : (owner : Cid) (j : Join) (n : ℕ) (x : Decision) → FitAsked owner j → Octets 2 n → FitDecision x
     → ReadFrom (join_reply_of owner j n x) 0 (join_means owner j n x)
 unfolding join_reply_of
-join_reply_read owner j n (decision.Refuse reason) f o g = join_refuse_read owner j reason f g
+join_reply_read owner j n (decision.Refuse reason) f o g = join_refuse_read owner j (number_of reason) f (reason_octet reason)
 join_reply_read owner j n (decision.Again r reciprocal) f o g = acceptance_read owner j r reciprocal f g.0 g.1
 join_reply_read owner j n (decision.Make p) f o g = welcome_read owner j n f o
 
@@ -199,24 +199,19 @@ join_reply_read owner j n (decision.Make p) f o g = welcome_read owner j n f o
 abbrev Says : Record → Reply → Type 0
 Says r reply.Nothing = Unit {0}
 Says r (reply.Ack n) = n ≡ r.reliable
-Says r (reply.Leaving reason n) = (reason ≡ lost_sequence) × (n ≡ r.reliable)
+Says r (reply.Leaving reason n) = n ≡ r.reliable
 
 acknowledged_says : (r : Record) (w : Arrived) → Says (acknowledged r w).after (acknowledged r w).reply
 unfolding acknowledged
 acknowledged_says r w = either (λ (s : Settled). Says s.after s.reply) (asked r w && not (spared r w)) _ _ refl tt
 
-gapped_reliable : (r : Record) (o : Reliable) → (gapped r o).after.reliable ≡ r.reliable
-unfolding gapped
-gapped_reliable r o =
-    either (λ (g : Gapped). g.after.reliable ≡ r.reliable) (closed r) _ _ refl
-    (either (λ (g : Gapped). g.after.reliable ≡ r.reliable) (isLost r o) _ _ refl refl)
-
 settled_says : (r : Record) (w : Arrived) → Says (settled r w).after (settled r w).reply
-unfolding settled
+unfolding settled gapped
 settled_says r w =
-    either (λ (s : Settled). Says s.after s.reply) (gapped r w.oldest).lost _ _
-    (refl, sym (gapped_reliable r w.oldest))
-    (acknowledged_says (gapped r w.oldest).after w)
+    either Settles (closed r) _ _ (acknowledged_says _ w) (either Settles (isLost r w.oldest) _ _ refl (acknowledged_says _ w))
+  where
+    Settles : Option Record → Type 0
+    Settles g = Says (settled_by g r w).after (settled_by g r w).reply
 
 step_says : (r : Record) (w : Arrived) → Says (taken r w).after (taken r w).reply
 unfolding taken
@@ -225,7 +220,7 @@ step_says r w = settled_says (released (placed (heard r w.reliable) w).after).af
 says_fits : (r : Record) (x : Reply) → r.reliable.0 < turn → Says r x → FitReply x
 says_fits r reply.Nothing h q = tt
 says_fits r (reply.Ack n) h q = rw q h
-says_fits r (reply.Leaving reason n) h q = (rw q.0 (lit< tt), rw q.1 h)
+says_fits r (reply.Leaving reason n) h q = rw q h
 
 step_fits : (r : Record) (w : Arrived) → Sound r → Both w.total w.reliable → FitReply (taken r w).reply
 step_fits r w s b = says_fits (taken r w).after (taken r w).reply (taken_sound r w s b).reliable (step_says r w)
@@ -237,9 +232,9 @@ step_reply_read r w s f b =
     subst (λ (t : Terms). ReadFrom (reply_of t (taken r w).reply) 0 (reply_means r.terms (taken r w).reply)) (sym (terms_kept r w))
     (reply_read r.terms (taken r w).reply f (step_fits r w s b))
 
-last_fits : (n : Nearest) (k : Reliable) → k.0 < turn → (end_by n k).0 < turn
-last_fits (near.Held n) k h = before_below 1 n.0
-last_fits near.Nothing k h = h
+last_fits : (n : Option Reliable) (k : Reliable) → k.0 < turn → (end_by n k).0 < turn
+last_fits (Some n) k h = before_below 1 n.0
+last_fits None k h = h
 
 elapsed_fits : (r : Record) (ms : ℕ) → Sound r → FitEvent (elapsed_of r ms).event
 unfolding nak_first nak_last
@@ -248,14 +243,14 @@ elapsed_fits r ms s = by (moves r ms)
     on : {g h : Gap} {e : Event} → Next r ms g h e → FitEvent e
     on quiet = tt
     on (stands_on l) = tt
-    on (asks l) = (s.reliable, next_below r.reliable.0, last_fits (nearest r.reliable near.Nothing r.places) r.known s.known)
+    on (asks l) = (s.reliable, next_below r.reliable.0, last_fits (nearest r.reliable None r.places) r.known s.known)
     on (waits_on l) = tt
     on (once_more l c) = tt
 
     by : {o : Elapsed} → Move r ms o → FitEvent o.event
     by (stands u) = tt
-    by (expires u x) = (lit< tt, s.reliable)
-    by (lost u x g l c) = (lit< tt, s.reliable)
+    by (expires u x) = s.reliable
+    by (lost u x g l c) = s.reliable
     by (goes_on u x m) = on m
 
 -- the octets that elapsed time sends are read as its event
@@ -283,21 +278,21 @@ pub leave_read : (r : Record) (reason : ℕ) → Sound r → FitTerms r.terms �
     → ReadFrom (sent_of (departure r.terms r.reliable reason)) 0 (departure r.terms r.reliable reason ∷ [])
 leave_read r reason s f e = departure_read r.terms r.reliable reason f s.reliable (leaving_octet reason e)
 
-decided_fits : (j : Join) (e : Existing) (n : ℕ) (free : Bool) → FitExisting e → FitDecision (decided j e n free)
+decided_fits : (j : Join) (e : Option Existing) (n : ℕ) (free : Bool) → FitExisting e → FitDecision (decided j e n free)
 unfolding decided decide_new
-decided_fits j e n free f = either FitDecision (legal j) _ _ (by j.address e f) (lit< tt)
+decided_fits j e n free f = either FitDecision (legal j) _ _ (by j.address e f) tt
   where
-    for : (e : Existing) (p : Parameters) → FitExisting e → FitDecision (decide_for e j.mid p n free)
-    for (existing.Known mid r reciprocal) p g = either FitDecision (eqb mid j.mid) _ _ g (lit< tt)
-    for existing.Unknown p g = either FitDecision (eqb n 0) _ _ (lit< tt) (either FitDecision free _ _ tt (lit< tt))
+    for : (e : Option Existing) (p : Parameters) → FitExisting e → FitDecision (decide_for e j.mid p n free)
+    for (Some x) p g = either FitDecision (eqb x.mid j.mid) _ _ g tt
+    for None p g = either FitDecision (eqb n 0) _ _ tt (either FitDecision free _ _ tt tt)
 
-    by : (a : Address) (e : Existing) → FitExisting e → FitDecision (decide_at a e j.mid n free)
+    by : (a : Address) (e : Option Existing) → FitExisting e → FitDecision (decide_at a e j.mid n free)
     by (address.Null p) e g = for e p g
     by (address.Ipv4 x p) e g = for e p g
-    by (address.Other t) e g = lit< tt
+    by (address.Other t) e g = tt
 
 -- the octets of the reply to a Join are read as what was decided
-pub decided_read : (owner : Cid) (j : Join) (e : Existing) (n : ℕ) (free : Bool) → FitAsked owner j → Octets 2 n → FitExisting e
+pub decided_read : (owner : Cid) (j : Join) (e : Option Existing) (n : ℕ) (free : Bool) → FitAsked owner j → Octets 2 n → FitExisting e
     → ReadFrom (join_reply_of owner j n (decided j e n free)) 0 (join_means owner j n (decided j e n free))
 decided_read owner j e n free f o g = join_reply_read owner j n (decided j e n free) f o (decided_fits j e n free g)
 
@@ -312,7 +307,7 @@ join_fits sender d s o =
       reliable = number_short d 26 4 o;
     }
 
-pub existing_fits : (r : Record) → Sound r → FitTerms r.terms → FitExisting (existing_of r)
+pub existing_fits : (r : Record) → Sound r → FitTerms r.terms → FitExisting (Some (existing_of r))
 existing_fits r s f = (s.reliable, f.reciprocal)
 
 -- ---- an example: channel 7 of the first owner asks for 11, and the second owner's Join to channel 7 is answered
@@ -325,9 +320,9 @@ nak_back : ReadFrom (event_of (elapsed_of (sample.holding sample.first) 50).afte
 unfolding elapsed_of phased in_standoff nak_first nak_last nearest nearer
 nak_back = elapsed_read (sample.holding sample.first) 50 (sample.sound_holding sample.first) terms_fit
 
-welcome_back : ReadFrom (join_reply_of sample.second (join_of sample.join_data) 9 (decided (join_of sample.join_data) existing.Unknown 9 true)) 0
+welcome_back : ReadFrom (join_reply_of sample.second (join_of sample.join_data) 9 (decided (join_of sample.join_data) None 9 true)) 0
     (acceptance sample.second (join_of sample.join_data) (reliable 10) 9 ∷ message.Ack (reliable 10) ∷ [])
 unfolding decided decide_new legal legal_block legal_names legal_parameters min_expiry cid_at join_of addressOfJoin parameters_at number
 welcome_back =
-    decided_read sample.second (join_of sample.join_data) existing.Unknown 9 true
+    decided_read sample.second (join_of sample.join_data) None 9 true
     (join_fits (sample.cid 3 4) sample.join_data (sample.lawful (sample.cid 3 4) refl) (sample.lawful sample.join_data refl)) (lit< tt) tt

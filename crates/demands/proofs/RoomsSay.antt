@@ -1,5 +1,5 @@
 -- What a caller reads after a call is what the call came to, whatever lay in the lent rooms before: delivery k stands in cell k with its length (`deliveries_stand`),
--- and the answer counts and lists it (`deliveries_counted`, `deliveries_listed`); only a wrapper's step delivers (`wrappers_deliver`); a reply stands at the front of its
+-- and the answer, if the call is accepted, counts and lists it (`deliveries_counted`, `deliveries_listed`); only a wrapper's step delivers (`wrappers_deliver`); a reply stands at the front of its
 -- room (`reply_stands`, `left_stands`), and what record k sends as time passes in cell k, as the answer lists it (`cells_stand`, `cells_listed`). The laws on deliveries assume a well-formed table of the machine's numbers (`Right`), all that speak of a
 -- room its size.
 use Prim.Native.Nat.{ℕ, zero, suc, ◌+◌, ◌*◌, ◌<◌, ◌≤◌}
@@ -11,16 +11,20 @@ use native.Mathlib.Nat.{zero-add, add-zero}
 use native.Mathlib.Omega.{arith}
 use lib.ListN.{length, get_or, length-set}
 use lib.Seq.{get_or-set_same, get_or-set_other}
+use Rattle.std.specs.Prelude.{⊤, Result, Ok, Err}
 use Rattle.octets.specs.Octets.{part, splice}
 use Rattle.octets.proofs.Writes.{length_splice, part_splice}
+use Rattle.message.specs.Layouts.{cid_at}
+use Rattle.message.specs.Reading.{contents}
+use Rattle.refusal.specs.declared.Refusal.{Refusal}
+use Rattle.record.proofs.Choices.{never}
 use Rattle.record.specs.WellFormed.{most_contents}
 use Rattle.wrapper.specs.Taken.{taken}
-use Rattle.wrapper.specs.declared.Arrived.{Arrived}
 use Rattle.table.specs.Table.{record_at}
 use Rattle.table.proofs.Tables.{formed}
 use Rattle.gap.specs.declared.Elapsed.{Elapsed}
 use Rattle.sending.proofs.Lengths.{event_within}
-use Rattle.carry.specs.Carried.{Delivered, no_deliveries, one_more, listed}
+use Rattle.carry.specs.Carried.{Delivered, delivered_by, no_deliveries, one_more, listed}
 use Rattle.carry.specs.declared.Delivery.{Delivery}
 use Rattle.carry.specs.declared.Deliveries.{Deliveries}
 use Rattle.carry.proofs.Appended.{listed_count}
@@ -30,11 +34,15 @@ use Rattle.carry.specs.Whole.{Each, Whole}
 use Rattle.carry.proofs.DeliveredLength.{delivered_length, delivered_few}
 use Rattle.carry.proofs.DeliverPast.{deliver_cell}
 use Rattle.member.specs.Sizes.{table_size, deliver_size, cell_size, cells_size}
-use Rattle.member.specs.Messages.{Outcome, plan_outcome, message_outcome, messaged, deliver_after, reply_after}
-use Rattle.member.specs.Elapsing.{Passing, sent_by, cells_from, cells_after, passed, cell_of}
+use Rattle.member.specs.Messages.{Outcome, join_outcome, plan_outcome, message_outcome, messaged_as, messaged, deliver_after, reply_after}
+use Rattle.member.specs.Elapsing.{Passing, sent_by, cells_from, cells_after, passed_as, passed, cell_of}
 use Rattle.member.specs.Leaving.{Departing, left_reply}
 use Rattle.member.specs.declared.Cell.{Cell}
+use Rattle.member.specs.declared.Given.{Given}
+use Rattle.member.specs.declared.Messaged.{Messaged}
+use Rattle.member.specs.declared.Passed.{Passed}
 use Rattle.demands.specs.Calls.{State, Right}
+use Rattle.demands.proofs.Lemmas.OneStep.{brought}
 use Rattle.demands.proofs.Lemmas.Outcomes.{Carries, message_cases}
 use Rattle.demands.specs.Frame.{is_wrapped}
 
@@ -44,24 +52,27 @@ record Stand (ds : List Delivered) : Type 0 where
   few : length ds ≤ 5
 
 module _ (s : State) (right : Right s) where
-  plan_stands : (i : ℕ) (w : Arrived) (c : List ℕ) → Carries s i w c → Stand (plan_outcome s.table s.held i w c (taken (record_at s.table i) w)).delivered
-  unfolding plan_outcome
-  plan_stands i w c carries =
-      let fits =
-      plan_fits (record_at s.table i) w carries.used ((formed s.table right.formed).each i) (right.sound i carries.within).four
-      (omega (arith, carries.said, carries.most)) in
-      record {
-        whole = delivered_length s.held i w c (taken (record_at s.table i) w) fits right.size carries.within carries.said carries.most;
-        few = delivered_few s.held i w c (taken (record_at s.table i) w) fits;
-      }
-
   message_stands_lem : (deliver reply : ℕ) (sender ours : List ℕ) (v : ℕ) (d : List ℕ) (n : ℕ)
       → Stand (message_outcome s.table s.held deliver reply sender ours v d n).delivered
-  message_stands_lem =
-      message_cases s right (λ out. Stand out.delivered) (λ number. nothing) (λ owner j n known free d. nothing) plan_stands
+  unfolding join_outcome plan_outcome
+  message_stands_lem deliver reply sender ours v d n =
+      message_cases s.table s.held deliver reply sender ours v d n (λ out. Stand out.delivered) (λ why. nothing) nothing (λ sized i carries. plan_stands i carries)
     where
       nothing : Stand []
       nothing = record { whole = tt; few = omega arith }
+
+      plan_stands : (i : ℕ) → Carries s.table (cid_at sender 0) v d i
+          → Stand (delivered_by s.held i (brought v d) (contents d) (taken (record_at s.table i) (brought v d)))
+      plan_stands i carries =
+          let below : i < 8 = omega (arith, carries.within, right.eight) in
+          let fits =
+          plan_fits (record_at s.table i) (brought v d) carries.used ((formed s.table right.formed).each i) (right.sound i below).four carries.most in
+          record {
+            whole =
+                delivered_length s.held i (brought v d) (contents d) (taken (record_at s.table i) (brought v d)) fits right.size below refl
+                carries.most;
+            few = delivered_few s.held i (brought v d) (contents d) (taken (record_at s.table i) (brought v d)) fits;
+          }
 
   -- delivery k is read in cell k
   pub deliveries_stand : (deliver reply : ℕ) (sender ours : List ℕ) (v : ℕ) (d : List ℕ) (n : ℕ) (room : List ℕ) (none : Delivered) (k : ℕ)
@@ -107,35 +118,40 @@ listed_at a (d ∷ ds) z none (suc k) five few l =
     ap (λ m. get_or (listed (one_more a d) ds).each m z) turn
     ∙ listed_at (one_more a d) ds z none k (length-set a.each a.count d.delivery ∙ five) (omega arith) (omega arith)
 
-module _ (s : State) (right : Right s) (deliver reply : ℕ) (sender ours : List ℕ) (v : ℕ) (d : List ℕ) (n : ℕ) where
-  -- the answer counts the deliveries that the call made
-  pub deliveries_counted : (messaged (message_outcome s.table s.held deliver reply sender ours v d n)).count
-      ≡ length (message_outcome s.table s.held deliver reply sender ours v d n).delivered
-  deliveries_counted = listed_count no_deliveries _ ∙ zero-add _
+-- the answer to a call that is accepted has what is listed
+answer_is : (out : Outcome) (a : Messaged) → messaged out ≡ Ok a
+    → (a.count ≡ (listed no_deliveries out.delivered).count) × (a.deliveries ≡ (listed no_deliveries out.delivered).each)
+answer_is out a e = by out.given e
+  where
+    by : (given : Result Given Refusal) → messaged_as out given ≡ Ok a
+        → (a.count ≡ (listed no_deliveries out.delivered).count) × (a.deliveries ≡ (listed no_deliveries out.delivered).each)
+    by (Ok g) e = (cc, cc)
+    by (Err why) e = never (cc)
 
-  -- and lists each, with its kind, numbers and length, in its turn
-  pub deliveries_listed : (z : Delivery) (none : Delivered) (k : ℕ)
-      → k < length (message_outcome s.table s.held deliver reply sender ours v d n).delivered
-      → get_or (messaged (message_outcome s.table s.held deliver reply sender ours v d n)).deliveries k z
-      ≡ (get_or (message_outcome s.table s.held deliver reply sender ours v d n).delivered k none).delivery
-  deliveries_listed z none k l =
-      let out = message_outcome s.table s.held deliver reply sender ours v d n in
-      let stand = message_stands_lem s right deliver reply sender ours v d n in
-      ap (λ m. get_or (messaged out).deliveries m z) (sym (zero-add k))
-      ∙ listed_at no_deliveries out.delivered z none k refl (omega (arith, stand.few)) l
+module _ (s : State) (right : Right s) (deliver reply : ℕ) (sender ours : List ℕ) (v : ℕ) (d : List ℕ) (n : ℕ) where
+  module _ (a : Messaged) (answered : messaged (message_outcome s.table s.held deliver reply sender ours v d n) ≡ Ok a) where
+    -- the answer of a call that is accepted counts the deliveries that the call made
+    pub deliveries_counted : a.count ≡ length (message_outcome s.table s.held deliver reply sender ours v d n).delivered
+    deliveries_counted = (answer_is (message_outcome s.table s.held deliver reply sender ours v d n) a answered).0 ∙ listed_count no_deliveries _ ∙ zero-add _
+
+    -- and lists each, with its kind, numbers and length, in its turn
+    pub deliveries_listed : (z : Delivery) (none : Delivered) (k : ℕ)
+        → k < length (message_outcome s.table s.held deliver reply sender ours v d n).delivered
+        → get_or a.deliveries k z ≡ (get_or (message_outcome s.table s.held deliver reply sender ours v d n).delivered k none).delivery
+    deliveries_listed z none k l =
+        let out = message_outcome s.table s.held deliver reply sender ours v d n in
+        let stand = message_stands_lem s right deliver reply sender ours v d n in
+        ap (λ ds. get_or ds k z) (answer_is out a answered).1
+        ∙ ap (λ m. get_or (listed no_deliveries out.delivered).each m z) (sym (zero-add k))
+        ∙ listed_at no_deliveries out.delivered z none k refl (omega (arith, stand.few)) l
 
   -- only a wrapper's step delivers: a refusal and the answer to a Join deliver nothing
   pub wrappers_deliver : is_wrapped (message_outcome s.table s.held deliver reply sender ours v d n).given ≡ false
       → (message_outcome s.table s.held deliver reply sender ours v d n).delivered ≡ []
-  unfolding plan_outcome
+  unfolding join_outcome plan_outcome
   wrappers_deliver =
-      message_cases s right (λ out. is_wrapped out.given ≡ false → out.delivered ≡ []) (λ number e. refl) (λ owner j n known free d e. refl)
-      (λ i w c carries. step i w c) deliver reply sender ours v d n
-    where
-      step : (i : ℕ) (w : Arrived) (c : List ℕ)
-          → is_wrapped (plan_outcome s.table s.held i w c (taken (record_at s.table i) w)).given ≡ false
-          → (plan_outcome s.table s.held i w c (taken (record_at s.table i) w)).delivered ≡ []
-      step i w c e = absurd (false≢true (sym e))
+      message_cases s.table s.held deliver reply sender ours v d n (λ out. is_wrapped out.given ≡ false → out.delivered ≡ []) (λ why e. refl) (λ e. refl)
+      (λ sized i carries e. absurd (false≢true (sym e)))
 
 -- ---- the cells of an elapsed call, and the room of a leave call
 
@@ -177,11 +193,15 @@ cells_stand p room none k eight size l =
     ap (λ m. part (cells_after p room) (m * cell_size) (length (sent_by (get_or p.each k none)))) (sym (zero-add k))
     ∙ cells_at 0 p.each room none k (omega (arith, eight, size)) (omega (arith, eight))
 
--- and the answer lists its event, with the number of octets that stand in its cell
-pub cells_listed : (p : Passing) (z : Cell) (none : Elapsed) (k : ℕ) → k < length p.each
-    → get_or (passed p).cells k z ≡ record { event = (get_or p.each k none).event; len = length (sent_by (get_or p.each k none)) }
-cells_listed p z none k l = at p.each k l
+-- and the answer of a call that is accepted lists its event, with the number of octets that stand in its cell
+pub cells_listed : (p : Passing) (a : Passed) → passed p ≡ Ok a → (z : Cell) (none : Elapsed) (k : ℕ) → k < length p.each
+    → get_or a.cells k z ≡ record { event = (get_or p.each k none).event; len = length (sent_by (get_or p.each k none)) }
+cells_listed p a e z none k l = ap (λ cs. get_or cs k z) (by p.given e) ∙ at p.each k l
   where
+    by : (given : Result ⊤ Refusal) → passed_as p given ≡ Ok a → a.cells ≡ map cell_of p.each
+    by (Ok done) e = cc
+    by (Err why) e = never (cc)
+
     at : (es : List Elapsed) (k : ℕ) → k < length es
         → get_or (map cell_of es) k z ≡ record { event = (get_or es k none).event; len = length (sent_by (get_or es k none)) }
     at [] k l = absurd (omega arith)

@@ -10,16 +10,15 @@ use native.Mathlib.Nat.{mod-lt}
 use lib.ListN.{length, get_or, drop}
 use lib.Seq.{take-length}
 use lib.Dec.{lit<, lit≤}
+use Rattle.std.specs.Prelude.{Some, Ok}
 use Rattle.octets.specs.Octets.{number, octets}
 use Rattle.octets.specs.Octets.{Octets}
 use Rattle.block.specs.Pdu.{head_size, fields, size_at, lacks_flag, left_over, malformed, found_at, pdu_at}
-use Rattle.block.specs.Block.{parse_from, parse, message_at, asked, read_block}
-use Rattle.block.specs.declared.BlockRead.TheVariants as block
+use Rattle.block.specs.Block.{parse_from, parse, asked, read_block}
 use Rattle.message.specs.Lengths.{look, length_of, most_contents}
 use Rattle.message.specs.Reading.{readable, fixed_of, message_of, read_message}
 use Rattle.message.specs.declared.Message.{Message}
 use Rattle.message.specs.declared.Message.TheVariants as message
-use Rattle.message.specs.declared.MessageRead.TheVariants.{Read}
 use Rattle.writing.specs.Fields.{wrapper_octets, fields_of}
 use Rattle.writing.specs.Fits.{Fits}
 use Rattle.writing.specs.Writing.{vector_of, address_of, has_form, carried_of, contents_of, pdu_of}
@@ -60,7 +59,7 @@ round_trip m c r fits form carried room =
 
 -- So it is for every vector and all octets that are read as a message which has a written form. (A wrapper with contents of more than 1,454
 -- octets is read too, and this holds of it, but writing it is refused.)
-pub written_again : (v : ℕ) (d : List ℕ) (m : Message) → Octets d → read_message v d ≡ Read m → has_form m ≡ true → WrittenAgain v d m
+pub written_again : (v : ℕ) (d : List ℕ) (m : Message) → Octets d → read_message v d ≡ Ok m → has_form m ≡ true → WrittenAgain v d m
 unfolding pdu_of
 written_again v d m o e form =
     let same = again d o v m e form in
@@ -82,11 +81,11 @@ pub ack_written : pdu_of ack [] ≡ ack_octets
 unfolding pdu_of vector_of fields_of carried_of octets
 ack_written = refl
 
-pub ack_found : read_block ack_octets 0 ≡ block.Message (record { vector = 2; place = 3; len = 4 })
-unfolding read_block parse parse_from asked message_at pdu_at malformed lacks_flag left_over found_at fields head_size size_at number
+pub ack_found : read_block ack_octets 0 ≡ Ok (Some (record { vector = 2; place = 3; len = 4 }))
+unfolding read_block parse parse_from asked pdu_at malformed lacks_flag left_over found_at fields head_size size_at number
 ack_found = refl
 
-pub ack_read : read_message (get_or ack_octets 2 0) (drop 3 ack_octets) ≡ Read ack
+pub ack_read : read_message (get_or ack_octets 2 0) (drop 3 ack_octets) ≡ Ok ack
 unfolding read_message readable length_of look message_of fixed_of number
 ack_read = refl
 

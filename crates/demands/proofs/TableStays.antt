@@ -1,22 +1,21 @@
 -- Every call takes a well-formed table to a well-formed table (`table_stays`), and eight free records are well formed (`free_table_right`). It
 -- assumes of the machine that its counters have 32 bits and that the data of messages are octets (`Sound`, `Lawful`).
-use Prim.Native.Nat.{ℕ, zero, suc, ◌<◌, ◌≤◌}
-use mathlib.Core.Bool.{Bool, true, false, cond, not, ◌&&◌}
+use Prim.Native.Nat.{ℕ, zero, suc, ◌<◌}
+use mathlib.Core.Bool.{Bool, true, false, cond}
 use mathlib.Core.List.{List, [], ◌∷◌, map}
 use mathlib.Core.Logic.{inl, inr}
 use mathlib.Core.Path.{◌≡◌, refl, sym, ◌∙◌}
 use native.Mathlib.Omega.{arith}
-use lib.Dec.{lit<, ltb, eqb}
+use lib.Dec.{lit<, eqb}
 use lib.ListN.{length, set, replicate, length-set, length-map, get_or-replicate}
-use borrow.Author.Tests.{eqb-true}
+use Rattle.std.specs.Prelude.{Option, Some, None, is_some}
 use Rattle.octets.specs.Octets.{Octets}
-use Rattle.message.specs.Layouts.{cid_at}
+use Rattle.message.specs.Layouts.{cid_at, join_of}
 use Rattle.message.specs.Reading.{contents}
 use Rattle.message.specs.declared.Cid.{Cid}
 use Rattle.message.specs.declared.Join.{Join}
 use Rattle.message.specs.declared.Parameters.{Parameters}
-use Rattle.record.specs.Reasons.{leaving_reason}
-use Rattle.record.specs.WellFormed.{most_contents, well_formed}
+use Rattle.record.specs.WellFormed.{well_formed}
 use Rattle.record.specs.With.{freed}
 use Rattle.record.specs.declared.Record.{Record}
 use Rattle.record.specs.Places.{place_at, no_place}
@@ -25,36 +24,32 @@ use Rattle.gap.specs.declared.Event.TheVariants as event
 use Rattle.gap.specs.declared.Elapsed.{Elapsed}
 use Rattle.gap.proofs.Moves.{Move, stands, expires, lost, goes_on, moves}
 use Rattle.gap.proofs.Stays.{elapsed_formed, terms_stay}
-use Rattle.wrapper.specs.Taken.{stepped}
+use Rattle.wrapper.specs.Taken.{taken}
 use Rattle.wrapper.specs.declared.Arrived.{Arrived}
 use Rattle.wrapper.proofs.Stays.{wrapper_stays}
 use Rattle.joining.specs.Joining.{decided, new_record}
-use Rattle.joining.specs.declared.Existing.TheVariants as existing
 use Rattle.joining.specs.declared.Decision.{Decision}
 use Rattle.joining.specs.declared.Decision.TheVariants as decision
 use Rattle.joining.proofs.Made.{made_well_formed}
 use Rattle.joining.proofs.Depends.{accepted_new}
-use Rattle.table.specs.Table.{named, found, lowest_free, table_formed, blank, free_table, record_at}
-use Rattle.table.specs.declared.Found.{Found}
-use Rattle.table.specs.declared.Found.TheVariants as search
+use Rattle.table.specs.Table.{named, found, lowest_free, blank, free_table, record_at}
 use Rattle.table.proofs.Finding.{found_at_lem, found_nowhere, free_at}
 use Rattle.table.proofs.Tables.{TableFormed, formed, well_formed_lem, free_table_formed, named_is, is_named_lem, Stands, set_at, free_set_formed, same_set_formed, new_set_formed}
 use Rattle.carry.proofs.OwnPlaces.{held_length}
-use Rattle.carry.proofs.PlanFits.{stepped_taken, stepped_fits}
-use Rattle.asking.specs.Asking.{asked_of}
-use Rattle.asking.specs.declared.Asked.{Asked}
-use Rattle.asking.specs.declared.Asked.TheVariants as asked
-use Rattle.asking.proofs.Steps.{asked_wrapper}
-use Rattle.member.specs.Sizes.{table_size, held_size, deliver_size, reply_size, cid_size, message_sizes, elapsed_sizes, leave_sizes}
-use Rattle.member.specs.Messages.{Outcome, existing_at, is_found, table_after, refused_message, join_outcome, plan_outcome, wrapper_outcome, asked_outcome, message_outcome}
-use Rattle.member.specs.Elapsing.{longest, Passing, elapsed_outcome, passed}
-use Rattle.member.specs.Leaving.{Departing, leave_for, departing, leave_outcome}
+use Rattle.carry.proofs.PlanFits.{plan_fits}
+use Rattle.member.specs.Sizes.{table_size, held_size}
+use Rattle.member.specs.Messages.{Outcome, existing_at, table_after, join_outcome, plan_outcome, message_outcome}
+use Rattle.member.specs.Elapsing.{elapsed_outcome, passed_table}
+use Rattle.member.specs.Leaving.{departing, leave_outcome}
 use Rattle.demands.specs.Calls as calls
 use Rattle.demands.specs.Calls.{Call, State, table_step, lent_as, Sound, Lawful, Right, Both}
 use Rattle.demands.proofs.Lemmas.Kept.{terms_kept}
-use Rattle.record.proofs.Choices.{either, never}
+use Rattle.demands.proofs.Lemmas.Owned.{message_sizes_lem}
+use Rattle.record.proofs.Choices.{never}
 use Rattle.demands.proofs.Lemmas.Sounds.{sound_by, aside, taken_sound, elapsed_sound, made_sound}
-use Rattle.demands.proofs.Lemmas.Brought.{Brings, asked_brings}
+use Rattle.demands.proofs.Lemmas.Brought.{wrapper_says, join_says}
+use Rattle.demands.proofs.Lemmas.OneStep.{brought}
+use Rattle.demands.proofs.Lemmas.Outcomes.{Carries, Sized, message_cases, leave_cases, elapsed_cases}
 
 -- ---- a table of the machine's numbers
 
@@ -86,19 +81,13 @@ module _ {ts : List Record} (t : RightTable ts) where
 
 leave_right : (ts : List Record) (reply : ℕ) (owner : List ℕ) (channel reason : ℕ) → RightTable ts
     → RightTable (leave_outcome ts reply owner channel reason).table
-unfolding leave_outcome departing
+unfolding departing
 leave_right ts reply owner channel reason t =
-    either (λ (p : Departing). RightTable p.table) (not (leave_sizes (length ts) reply (length owner))) _ _ t
-    (either (λ (p : Departing). RightTable p.table) (not (table_formed ts)) _ _ t (by (found 0 (cid_at owner 0) channel ts) refl))
-  where
-    by : (f : Found) → found 0 (cid_at owner 0) channel ts ≡ f → RightTable (leave_for ts reason f).table
-    by search.Nowhere e = t
-    by (search.At i) e =
-        let h = (found_at_lem (cid_at owner 0) channel ts i e).0 in
-        let r = freed (record_at ts i) in
-        either (λ (p : Departing). RightTable p.table) (leaving_reason reason) _ _
-        (set_right t i r h (free_set_formed ts i r h t.formed refl) (aside (sound_at t i h) _ _ _ _))
-        t
+    leave_cases ts reply owner channel reason (λ p. RightTable p.table) (λ why. t)
+    (λ i l e q.
+    let h = (found_at_lem (cid_at owner 0) channel ts i e).0 in
+    let r = freed (record_at ts i) in
+    set_right t i r h (free_set_formed ts i r h t.formed refl) (aside (sound_at t i h) _ _ _ _))
 
 -- ---- an elapsed call
 
@@ -151,16 +140,12 @@ module _ (each : Record → Elapsed) (past : (each (blank [])).after ≡ blank [
           goes_at : (k : ℕ) → Goes (record_at ts k) (record_at (after ts) k)
           goes_at k = rw (after_at ts k) (goes (record_at ts k) (t.formed.each k))
 
-elapsed_right : (ts : List Record) (cells ms : ℕ) → RightTable ts → RightTable (passed (elapsed_outcome ts cells ms)).table
-unfolding elapsed_outcome elapsed_of
+elapsed_right : (ts : List Record) (cells ms : ℕ) → RightTable ts → RightTable (passed_table (elapsed_outcome ts cells ms))
+unfolding elapsed_of
 elapsed_right ts cells ms t =
-    either (λ (p : Passing). RightTable (passed p).table) (not (elapsed_sizes (length ts) cells)) _ _ standing
-    (either (λ (p : Passing). RightTable (passed p).table) (not (table_formed ts)) _ _ standing
-    (either (λ (p : Passing). RightTable (passed p).table) (ltb longest ms) _ _ standing
-    (after_right (λ r. elapsed_of r ms) refl (λ r. elapsed_goes r ms) (λ r. elapsed_sound r ms) ts t)))
-  where
-    standing : RightTable (map (λ e. e.after) (map (λ r. gives r event.Nothing) ts))
-    standing = after_right (λ r. gives r event.Nothing) refl (λ r w. record { formed = w; used = λ u. u; terms = refl }) (λ r s. s) ts t
+    elapsed_cases ts cells ms (λ p. RightTable (passed_table p))
+    (λ why. after_right (λ r. gives r event.Nothing) refl (λ r w. record { formed = w; used = λ u. u; terms = refl }) (λ r s. s) ts t)
+    (after_right (λ r. elapsed_of r ms) refl (λ r. elapsed_goes r ms) (λ r. elapsed_sound r ms) ts t)
 
 -- ---- a message call
 
@@ -170,28 +155,25 @@ record Keeps (held : List ℕ) (out : Outcome) : Type 0 where
   size : length out.held ≡ length held
 
 module _ {ts : List Record} (t : RightTable ts) (held : List ℕ) where
-  refused_keeps : (n : ℕ) → Keeps held (refused_message ts held n)
-  refused_keeps n = record { table = t; size = refl }
-
   -- a Join that makes a record finds none of its owner and channel
   new_channel : (s : Cid) (j : Join) (n : ℕ) (p : Parameters) (free : Bool)
-      → decided j (existing_at ts (found 0 s j.channel ts)) n free ≡ decision.Make p
+      → decided j (existing_at ts (found s j.channel ts)) n free ≡ decision.Make p
       → (k : ℕ) → named s j.channel (record_at ts k) ≡ false
   new_channel s j n p free e =
       found_nowhere s j.channel ts
-      (by (found 0 s j.channel ts) ((accepted_new j (existing_at ts (found 0 s j.channel ts)) n free p).0 e).2)
+      (by (found s j.channel ts) ((accepted_new j (existing_at ts (found s j.channel ts)) n free p).0 e).2)
     where
-      by : (f : Found) → existing_at ts f ≡ existing.Unknown → f ≡ search.Nowhere
-      by search.Nowhere u = refl
-      by (search.At i) u = never (cc)
+      by : (f : Option ℕ) → existing_at ts f ≡ None → f ≡ None
+      by None u = refl
+      by (Some i) u = never (cc)
 
-  made_right : (s : Cid) (j : Join) (n : ℕ) → Both j.total j.reliable → (d : Decision) (f : Found) (free : Bool)
-      → decided j (existing_at ts (found 0 s j.channel ts)) n free ≡ d → lowest_free 0 ts ≡ f → RightTable (table_after ts s j n d f)
+  made_right : (s : Cid) (j : Join) (n : ℕ) → Both j.total j.reliable → (d : Decision) (f : Option ℕ) (free : Bool)
+      → decided j (existing_at ts (found s j.channel ts)) n free ≡ d → lowest_free ts ≡ f → RightTable (table_after ts s j n d f)
   unfolding new_record
   made_right s j n b (decision.Refuse reason) f free e g = t
   made_right s j n b (decision.Again r reciprocal) f free e g = t
-  made_right s j n b (decision.Make p) search.Nowhere free e g = t
-  made_right s j n b (decision.Make p) (search.At i) free e g =
+  made_right s j n b (decision.Make p) None free e g = t
+  made_right s j n b (decision.Make p) (Some i) free e g =
       let h = (free_at ts i g).0 in
       let r = new_record (record_at ts i) s j p n in
       let w = made_well_formed (record_at ts i) s j _ p n free e in
@@ -201,91 +183,37 @@ module _ {ts : List Record} (t : RightTable ts) (held : List ℕ) where
 
   join_keeps : (s : Cid) (j : Join) (n : ℕ) → Both j.total j.reliable → Keeps held (join_outcome ts held s j n)
   unfolding join_outcome
-  join_keeps s j n b = record { table = made_right s j n b _ (lowest_free 0 ts) (is_found (lowest_free 0 ts)) refl refl; size = refl }
-
-  module _
-      (i : ℕ)
-      (w : Arrived)
-      (c : List ℕ)
-      (within : i < length ts)
-      (used : (record_at ts i).used ≡ true)
-      (len : w.len ≡ length c)
-      (fits : w.len ≤ most_contents)
-      (room : length held ≡ held_size)
-      (b : Both w.total w.reliable)
-    where
-      abbrev r : Record
-      r = record_at ts i
-
-      -- a step that is not refused
-      step_keeps : (stepped r w).number ≡ 0 → Keeps held (plan_outcome ts held i w c (stepped r w).plan)
-      unfolding plan_outcome
-      step_keeps e =
-          let s = sound_at t i within in
-          let well = t.formed.each i in
-          let plan = (stepped r w).plan in
-          let same = stepped_taken r w e in
-          let after-formed = wrapper_stays r w well used s.four s.reliable (λ j u. s.held j) b.1 fits in
-          let same-terms : plan.after.terms ≡ r.terms = rw same (terms_kept r w) in
-          let after-sound : Sound plan.after = rw same (taken_sound r w s b) in
-          let plan_fits = stepped_fits r w used well s.four fits e in
-          let eight : length ts ≡ 8 = t.eight in
-          record {
-            table =
-                set_right t i plan.after within
-                (same_set_formed ts i plan.after within t.formed after-formed used same-terms)
-                after-sound;
-            size = held_length i plan.fate c held (omega arith) plan_fits.place (omega arith) room;
-          }
-
-      wrapper_keeps : Keeps held (wrapper_outcome ts held i w c)
-      unfolding wrapper_outcome
-      wrapper_keeps = by (eqb (stepped r w).number 0) refl
-        where
-          by : (x : Bool) → eqb (stepped r w).number 0 ≡ x
-              → Keeps held (cond x (plan_outcome ts held i w c (stepped r w).plan) (refused_message ts held (stepped r w).number))
-          by true e = step_keeps (eqb-true (stepped r w).number 0 e)
-          by false e = refused_keeps (stepped r w).number
-
-  asked_keeps : (s o : Cid) (v : ℕ) (d : List ℕ) (n : ℕ) → length held ≡ held_size → (a : Asked) → asked_of ts s o v d ≡ a → Brings a
-      → Keeps held (asked_outcome ts held s n (contents d) a)
-  asked_keeps s o v d n room (asked.Refused number) e b = refused_keeps number
-  asked_keeps s o v d n room (asked.Join j) e b = join_keeps s j n b
-  asked_keeps s o v d n room (asked.Wrapper i w) e b =
-      let step = asked_wrapper ts s o i w v d e in
-      wrapper_keeps i w (contents d) step.within step.used step.len step.fits room b
-
-  -- of the sizes that are lent
-  held_is : (deliver reply : ℕ) (sender ours : ℕ) → message_sizes (length ts) (length held) deliver reply sender ours ≡ true
-      → length held ≡ held_size
-  unfolding message_sizes
-  held_is deliver reply sender ours e =
-      eqb-true (length held) held_size
-      (second (eqb (length ts) table_size) (eqb (length held) held_size) (eqb deliver deliver_size) (eqb reply reply_size) (eqb sender cid_size) (eqb ours cid_size) e)
-    where
-      second : (a b c d f g : Bool) → a && b && c && d && f && g ≡ true → b ≡ true
-      second a true c d f g h = refl
-      second true false c d f g h = h
-      second false false c d f g h = h
+  join_keeps s j n b = record { table = made_right s j n b _ (lowest_free ts) (is_some (lowest_free ts)) refl refl; size = refl }
 
   message_keeps : (deliver reply : ℕ) (sender ours : List ℕ) (v : ℕ) (d : List ℕ) (n : ℕ) → Octets d
       → Keeps held (message_outcome ts held deliver reply sender ours v d n)
-  unfolding message_outcome
-  message_keeps deliver reply sender ours v d n o = by _ refl
+  unfolding plan_outcome
+  message_keeps deliver reply sender ours v d n o =
+      message_cases ts held deliver reply sender ours v d n (Keeps held) (λ why. record { table = t; size = refl })
+      (join_keeps (cid_at sender 0) (join_of d) n (join_says v d o)) plan_keeps
     where
-      asks : Asked
-      asks = asked_of ts (cid_at sender 0) (cid_at ours 0) v d
+      w : Arrived
+      w = brought v d
 
-      out : Outcome
-      out = asked_outcome ts held (cid_at sender 0) n (contents d) asks
-
-      by : (x : Bool) → message_sizes (length ts) (length held) deliver reply (length sender) (length ours) ≡ x
-          → Keeps held (cond (not x) (refused_message ts held 1) (cond (not (table_formed ts)) (refused_message ts held 2) out))
-      by false e = refused_keeps 1
-      by true e =
-          either (Keeps held) (not (table_formed ts)) (refused_message ts held 2) out (refused_keeps 2)
-          (asked_keeps (cid_at sender 0) (cid_at ours 0) v d n (held_is deliver reply _ _ e) asks refl
-          (asked_brings ts (cid_at sender 0) (cid_at ours 0) v d o))
+      plan_keeps : Sized ts held deliver reply sender ours v d n → (i : ℕ) → Carries ts (cid_at sender 0) v d i
+          → Keeps held (plan_outcome ts held i w (contents d) (taken (record_at ts i) w))
+      plan_keeps sized i carries =
+          let r = record_at ts i in
+          let s = sound_at t i carries.within in
+          let well = t.formed.each i in
+          let plan = taken r w in
+          let b = wrapper_says v d o in
+          let after-formed = wrapper_stays r w well carries.used s.four s.reliable (λ j u. s.held j) b.1 carries.most plan carries.fresh in
+          let eight : length ts ≡ 8 = t.eight in
+          record {
+            table =
+                set_right t i plan.after carries.within
+                (same_set_formed ts i plan.after carries.within t.formed after-formed carries.used (terms_kept r w))
+                (taken_sound r w s b);
+            size =
+                held_length i plan.fate (contents d) held (omega (arith, carries.within)) (plan_fits r w carries.used well s.four carries.most).place carries.most
+                (message_sizes_lem _ _ deliver reply _ _ sized).0;
+          }
 
 -- ---- every call
 

@@ -1,16 +1,17 @@
 -- Calls over the table as one kind of thing, so that runs can be made of them (demand 3 of the order: "nothing but our calls over the tables"): any arguments, any sizes
 -- lent, refused ones too. (The table goes in by value, so it always has its size.) Their meaning is that of `member`, and nothing is defined twice.
-use Rattle.std.specs.Prelude.{ℕ, ◌<◌, true, cond, List, ◌≡◌, eqb, length, replicate}
+use Rattle.std.specs.Prelude.{ℕ, ◌<◌, true, cond, List, Result, Ok, Err, ◌≡◌, eqb, length, replicate}
 use Rattle.counter.specs.Distance.{turn}
 use Rattle.counter.specs.declared.Total.{Total}
 use Rattle.counter.specs.declared.Reliable.{Reliable}
 use Rattle.octets.specs.Octets.{Octets}
+use Rattle.refusal.specs.declared.Refusal.{Refusal}
 use Rattle.record.specs.declared.Record.{Record}
 use Rattle.record.specs.Places.{place_at}
 use Rattle.table.specs.Table.{table_formed, record_at}
 use Rattle.member.specs.Sizes.{table_size, held_size}
 use Rattle.member.specs.Messages.{Outcome, message_outcome}
-use Rattle.member.specs.Elapsing.{Passing, elapsed_outcome, passed}
+use Rattle.member.specs.Elapsing.{Passing, elapsed_outcome, passed_table}
 use Rattle.member.specs.Leaving.{Departing, leave_outcome}
 use Rattle.demands.specs.Runs.{Came}
 
@@ -43,7 +44,7 @@ message_came s held out =
     }
 
 abbrev pub elapsed_came : State → Passing → Came State Answer
-elapsed_came s p = record { state = record { table = (passed p).table; held = s.held }; answer = elapsed p }
+elapsed_came s p = record { state = record { table = passed_table p; held = s.held }; answer = elapsed p }
 
 abbrev pub leave_came : State → Departing → Came State Answer
 leave_came s p = record { state = record { table = p.table; held = s.held }; answer = leave p }
@@ -53,6 +54,11 @@ table_step s (message held deliver reply sender ours v d n) =
     message_came s held (message_outcome s.table (lent_as held s.held) deliver reply sender ours v d n)
 table_step s (elapsed cells ms) = elapsed_came s (elapsed_outcome s.table cells ms)
 table_step s (leave reply owner channel reason) = leave_came s (leave_outcome s.table reply owner channel reason)
+
+-- the table that the caller has when a call has answered: the answer's, which `table` takes out of it, or after a refusal the one that went in by value
+abbrev pub table_left : {A : Type 0} → (A → List Record) → List Record → Result A Refusal → List Record
+table_left table ts (Ok answer) = table answer
+table_left table ts (Err why) = ts
 
 -- ---- what the machine's types say of it
 

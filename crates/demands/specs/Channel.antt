@@ -1,7 +1,7 @@
 -- One channel by itself (demand 3 of the order: "what demand 2's definition gives for those steps alone"): the record of an owner and a channel with the octets of its four
 -- places, which calls are its own, and what they do to it. Every step is that of one channel (`stepped`, `elapsed_of`, `decided`, `freed`), with its octets held,
 -- delivered and sent as the calls over the table do it; no other record and no search plays a part.
-use Rattle.std.specs.Prelude.{ℕ, ◌*◌, Bool, true, cond, not, ◌&&◌, ◌||◌, List, [], ltb, eqb, length, get_or}
+use Rattle.std.specs.Prelude.{ℕ, ◌*◌, Bool, true, cond, not, ◌&&◌, ◌||◌, List, [], Some, Result, Ok, Err, ltb, eqb, length, get_or}
 use Rattle.octets.specs.Octets.{part}
 use Rattle.message.specs.Lengths.{reliable_wrapper, join}
 use Rattle.message.specs.Layouts.{cid_at, wrapper_of, join_of}
@@ -12,6 +12,8 @@ use Rattle.record.specs.Reasons.{leaving_reason}
 use Rattle.record.specs.With.{freed}
 use Rattle.record.specs.WellFormed.{most_contents}
 use Rattle.record.specs.declared.Record.{Record}
+use Rattle.refusal.specs.declared.Refusal.{Refusal}
+use Rattle.refusal.specs.declared.Refusal.TheVariants as refusal
 use Rattle.gap.specs.Elapsed.{gives, elapsed_of}
 use Rattle.gap.specs.declared.Event.{Event}
 use Rattle.gap.specs.declared.Event.TheVariants as event
@@ -20,7 +22,6 @@ use Rattle.wrapper.specs.Taken.{stepped}
 use Rattle.wrapper.specs.declared.Arrived.{Arrived}
 use Rattle.wrapper.specs.declared.Fate.{Fate}
 use Rattle.wrapper.specs.declared.Plan.{Plan}
-use Rattle.wrapper.specs.declared.Stepped.{Stepped}
 use Rattle.joining.specs.Joining.{existing_of, decided}
 use Rattle.joining.specs.Replies.{departure}
 use Rattle.joining.specs.declared.Decision.{Decision}
@@ -65,7 +66,7 @@ pub record Channel : Type 0 where
 
 -- what its own calls answer it
 pub data Told : Type 0 where
-  refused : ℕ → Told
+  refused : Refusal → Told
   -- a wrapper's fate, how many held ones were thrown out, what is delivered, and the octets of the reply
   wrapped : Fate → ℕ → List Delivered → List ℕ → Told
   joined : Decision → List ℕ → Told
@@ -84,13 +85,14 @@ planned h w c p =
       answer = wrapped p.fate p.thrown (delivered_by h.held 0 w c p) (reply_of p.after.terms p.reply);
     }
 
-abbrev pub by_step : Channel → Arrived → List ℕ → Stepped → Came Channel Told
-by_step h w c step = cond (eqb step.number 0) (planned h w c step.plan) (stays h (refused step.number))
+abbrev pub by_step : Channel → Arrived → List ℕ → Result Plan Refusal → Came Channel Told
+by_step h w c (Ok p) = planned h w c p
+by_step h w c (Err why) = stays h (refused why)
 
 -- a wrapper on it: 7, then its step
 unfoldable pub wrapper_on : Channel → ℕ → List ℕ → Came Channel Told
 wrapper_on h v d =
-    cond (ltb most_contents (length (contents d))) (stays h (refused 7))
+    cond (ltb most_contents (length (contents d))) (stays h (refused refusal.ContentsOver))
     (by_step h (arrived_of (eqb v reliable_wrapper) (wrapper_of d) (length (contents d))) (contents d)
     (stepped h.at (arrived_of (eqb v reliable_wrapper) (wrapper_of d) (length (contents d)))))
 
@@ -99,8 +101,8 @@ wrapper_on h v d =
 unfoldable pub join_on : Channel → Cid → List ℕ → Join → ℕ → Came Channel Told
 join_on h owner ours j n =
     cond (same j.cid (cid_at ours 0))
-    (stays h (joined (decided j (existing_of h.at) n true) (join_reply_of owner j n (decided j (existing_of h.at) n true))))
-    (stays h (refused 5))
+    (stays h (joined (decided j (Some (existing_of h.at)) n true) (join_reply_of owner j n (decided j (Some (existing_of h.at)) n true))))
+    (stays h (refused refusal.NotForUs))
 
 unfoldable pub elapsed_on : Channel → ℕ → Came Channel Told
 elapsed_on h ms =
@@ -117,17 +119,17 @@ leave_on h reason =
       state = record { at = freed h.at; held = h.held };
       answer = left (sent_of (departure h.at.terms h.at.reliable reason));
     })
-    (stays h (refused 10))
+    (stays h (refused refusal.WrongReason))
 
 -- the channel of this owner by itself, for one of its own calls. 1 is judged by the sizes lent; the table is well formed, so 2 is not given
 unfoldable pub one : Cid → Channel → Call → Came Channel Told
 one owner h (calls.message held deliver reply sender ours v d n) =
     cond (message_sizes table_size held deliver reply (length sender) (length ours))
     (cond (is_wrapper v) (wrapper_on h v d) (join_on h owner ours (join_of d) n))
-    (stays h (refused 1))
+    (stays h (refused refusal.WrongSize))
 one owner h (calls.elapsed cells ms) = elapsed_on h ms
 one owner h (calls.leave reply sender named reason) =
-    cond (leave_sizes table_size reply (length sender)) (leave_on h reason) (stays h (refused 1))
+    cond (leave_sizes table_size reply (length sender)) (leave_on h reason) (stays h (refused refusal.WrongSize))
 
 -- it is live as long as its record is used
 abbrev pub live : Channel → Bool
@@ -146,18 +148,22 @@ unfoldable pub channel_at : ℕ → State → Channel
 channel_at i s = record { at = record_at s.table i; held = slab i s.held }
 
 abbrev pub told_given : Given → List Delivered → List ℕ → Told
-told_given (given.Refused number) delivered reply = refused number
 told_given (given.Joined at decision) delivered reply = joined decision reply
 told_given (given.Wrapped at fate thrown sent) delivered reply = wrapped fate thrown delivered reply
+
+-- a refusal is told as it is, and what is given as `tells` says
+abbrev pub told_by_result : {A : Type 0} → Result A Refusal → (A → Told) → Told
+told_by_result (Ok given) tells = tells given
+told_by_result (Err why) tells = refused why
 
 -- the record's own part of an elapsed call
 abbrev pub entry_at : Passing → ℕ → Elapsed
 entry_at p i = get_or p.each i (gives (blank []) event.Nothing)
 
 abbrev pub told_by : ℕ → calls.Answer → Told
-told_by i (calls.message out) = told_given out.given out.delivered out.reply
-told_by i (calls.elapsed p) = cond (eqb p.number 0) (passed (entry_at p i).event (sent_by (entry_at p i))) (refused p.number)
-told_by i (calls.leave p) = cond (eqb p.number 0) (left p.reply) (refused p.number)
+told_by i (calls.message out) = told_by_result out.given (λ g. told_given g out.delivered out.reply)
+told_by i (calls.elapsed p) = told_by_result p.given (λ done. passed (entry_at p i).event (sent_by (entry_at p i)))
+told_by i (calls.leave p) = told_by_result p.given (λ at. left p.reply)
 
 unfoldable pub view_at : ℕ → Came State calls.Answer → Came Channel Told
 view_at i m = record { state = channel_at i m.state; answer = told_by i m.answer }

@@ -1,6 +1,6 @@
 -- What is said of a channel over a whole run: the order of its deliveries and where they come from (01, "One channel", steps 1, 3 and 4), what its NAKs ask for, and the
 -- time that passes ("A gap ends").
-use Rattle.std.specs.Prelude.{ℕ, zero, suc, ◌+◌, ◌*◌, Bool, true, false, cond, not, ◌||◌, List, [], ◌∷◌, ◌++◌, ◌≡◌, eqb, pos, length, get_or}
+use Rattle.std.specs.Prelude.{ℕ, zero, suc, ◌+◌, ◌*◌, Bool, true, false, cond, not, ◌||◌, List, [], ◌∷◌, ◌++◌, Some, Ok, ◌≡◌, eqb, pos, length, get_or}
 use Rattle.std.specs.Int.Signed.{le_z}
 use Rattle.counter.specs.Distance.{distance}
 use Rattle.counter.specs.Steps.{next}
@@ -19,7 +19,6 @@ use Rattle.gap.specs.Range.{nak_first, nak_last, OnlyMissing}
 use Rattle.gap.specs.declared.Event.TheVariants as event
 use Rattle.record.specs.Places.{no_place}
 use Rattle.joining.specs.declared.Decision.TheVariants as decision
-use Rattle.table.specs.declared.Found.TheVariants as search
 use Rattle.carry.specs.Carried.{Delivered, from_place}
 use Rattle.member.specs.Messages.{message_outcome}
 use Rattle.member.specs.declared.Given.TheVariants as given
@@ -33,7 +32,7 @@ use Rattle.demands.specs.Channel.{Channel, Told, refused, wrapped, joined, passe
 
 -- what one of the channel's own calls delivers
 abbrev pub delivered_in : Told → List Delivered
-delivered_in (refused n) = []
+delivered_in (refused why) = []
 delivered_in (wrapped fate thrown ds reply) = ds
 delivered_in (joined d reply) = []
 delivered_in (passed e sent) = []
@@ -81,7 +80,7 @@ as_sent v d =
 
 -- the call was not refused
 abbrev pub accepted : Told → Bool
-accepted (refused n) = false
+accepted (refused why) = false
 accepted (wrapped fate thrown ds reply) = true
 accepted (joined d reply) = true
 accepted (passed e sent) = true
@@ -102,7 +101,7 @@ pub data From (h : Channel) (cs : List Call) (ms : List (Came Channel Told)) (x 
 -- the call c is a Join j of this owner for this channel, and it makes record i
 pub data Makes (s : State) : Call → ℕ → Cid → ℕ → Join → Type 0 where
   makes : (held deliver reply : ℕ) (sender ours : List ℕ) (v : ℕ) (d : List ℕ) (n i : ℕ) (p : Parameters)
-      → (message_outcome s.table (calls.lent_as held s.held) deliver reply sender ours v d n).given ≡ given.Joined (search.At i) (decision.Make p)
+      → (message_outcome s.table (calls.lent_as held s.held) deliver reply sender ours v d n).given ≡ Ok (given.Joined (Some i) (decision.Make p))
       → Makes s (calls.message held deliver reply sender ours v d n) i (cid_at sender 0) (join_of d).channel (join_of d)
 
 -- ---- what is asked for

@@ -1,22 +1,20 @@
 -- When a call over the table is refused and by which number (01, "Refusal numbers, in order of checking"): each condition by itself, the order in which each
 -- call checks them, and what stands after a refusal. None of it looks at how the calls decide.
-use Rattle.std.specs.Prelude.{ℕ, Bool, true, false, cond, not, ◌&&◌, ◌||◌, List, [], ◌∷◌, map, ltb, eqb, length, replicate}
+use Rattle.std.specs.Prelude as option
+use Rattle.std.specs.Prelude.{ℕ, Bool, true, false, cond, not, ◌&&◌, ◌||◌, List, [], ◌∷◌, Option, Some, is_some, Result, Ok, Err, ◌≡◌, ltb, eqb, length}
 use Rattle.message.specs.Lengths.{reliable_wrapper, unreliable_wrapper, join, ack}
 use Rattle.message.specs.Layouts.{cid_at, wrapper_of, join_of}
 use Rattle.message.specs.Reading.{readable, contents}
+use Rattle.refusal.specs.Numbers.{number_of}
+use Rattle.refusal.specs.declared.Refusal.{Refusal}
+use Rattle.refusal.specs.declared.Refusal.TheVariants as refusal
 use Rattle.record.specs.Reasons.{leaving_reason}
 use Rattle.record.specs.WellFormed.{most_contents}
 use Rattle.record.specs.declared.Record.{Record}
-use Rattle.gap.specs.declared.Event.TheVariants as event
 use Rattle.wrapper.specs.Judge.{judged}
-use Rattle.wrapper.specs.declared.Judged.{Judged}
-use Rattle.wrapper.specs.declared.Judged.TheVariants as judging
 use Rattle.table.specs.Table.{same, found, table_formed, record_at, blank}
-use Rattle.table.specs.declared.Found.{Found}
-use Rattle.table.specs.declared.Found.TheVariants as search
 use Rattle.member.specs.Sizes.{message_sizes, elapsed_sizes, leave_sizes}
-use Rattle.member.specs.Messages.{is_found, MessageEnds}
-use Rattle.member.specs.declared.Given.TheVariants as given
+use Rattle.member.specs.Messages.{MessageEnds}
 use Rattle.member.specs.Elapsing.{longest, ElapsedEnds}
 use Rattle.member.specs.Leaving.{LeaveEnds}
 
@@ -59,35 +57,34 @@ abbrev pub not_for_us : List ℕ → ℕ → List ℕ → Bool
 not_for_us ours v d = not (is_wrapper v) && not (eqb v join && same (join_of d).cid (cid_at ours 0))
 
 -- where the table has the channel that a wrapper names
-abbrev pub own_place : List Record → List ℕ → List ℕ → Found
-own_place ts sender d = found 0 (cid_at sender 0) (wrapper_of d).channel ts
+abbrev pub own_place : List Record → List ℕ → List ℕ → Option ℕ
+own_place ts sender d = found (cid_at sender 0) (wrapper_of d).channel ts
 
 -- 6: a wrapper whose owner and channel no record has
 abbrev pub no_record : List Record → List ℕ → ℕ → List ℕ → Bool
-no_record ts sender v d = is_wrapper v && not (is_found (own_place ts sender d))
+no_record ts sender v d = is_wrapper v && not (is_some (own_place ts sender d))
 
 -- 7: a wrapper with contents over 1,454
 abbrev pub too_long : ℕ → List ℕ → Bool
 too_long v d = is_wrapper v && ltb most_contents (length (contents d))
 
-abbrev pub record_found : List Record → Found → Record
-record_found ts (search.At i) = record_at ts i
-record_found ts search.Nowhere = blank []
+-- the record that is found. (`None` by itself is, in this file, that no condition holds)
+abbrev pub record_found : List Record → Option ℕ → Record
+record_found ts (Some i) = record_at ts i
+record_found ts option.None = blank []
 
 -- step 1 of the wrapper on its own record
-abbrev pub judgement : List Record → List ℕ → ℕ → List ℕ → Judged
+abbrev pub judgement : List Record → List ℕ → ℕ → List ℕ → Result (Unit {0}) Refusal
 judgement ts sender v d =
     judged (record_found ts (own_place ts sender d)) (eqb v reliable_wrapper) (wrapper_of d).total (wrapper_of d).reliable
 
-abbrev pub is_old : Judged → Bool
-is_old judging.Old = true
-is_old judging.Inconsistent = false
-is_old judging.Fresh = false
+abbrev pub is_old : Result (Unit {0}) Refusal → Bool
+is_old (Err refusal.Old) = true
+is_old other = false
 
-abbrev pub is_inconsistent : Judged → Bool
-is_inconsistent judging.Old = false
-is_inconsistent judging.Inconsistent = true
-is_inconsistent judging.Fresh = false
+abbrev pub is_inconsistent : Result (Unit {0}) Refusal → Bool
+is_inconsistent (Err refusal.Inconsistent) = true
+is_inconsistent other = false
 
 -- ---- the orders
 
@@ -114,34 +111,22 @@ abbrev pub leave_checks : List Record → ℕ → List ℕ → ℕ → ℕ → L
 leave_checks ts reply owner channel reason =
     check 1 (not (leave_sizes (length ts) reply (length owner)))
     ∷ check 2 (not (table_formed ts))
-    ∷ check 6 (not (is_found (found 0 (cid_at owner 0) channel ts)))
+    ∷ check 6 (not (is_some (found (cid_at owner 0) channel ts)))
     ∷ check 10 (not (leaving_reason reason))
     ∷ []
 
--- ---- what stands after a refusal: every record and every lent octet as before, and the number alone is answered
+-- ---- what stands after a refusal: the refusal alone is answered, and every lent octet is as before. (The table went in by value, so the caller has it still; the
+-- theorems say beside this that what the call comes to has the same table.)
 
-abbrev pub message_stands : List Record → List ℕ → List ℕ → List ℕ → ℕ → MessageEnds
-message_stands ts held deliver reply number =
-    record {
-      answer =
-          record {
-            table = ts;
-            given = given.Refused number;
-            deliveries = replicate 5 (record { reliably = false; total = record { 0 = 0 }; reliable = record { 0 = 0 }; len = 0 });
-            count = 0;
-            reply = 0;
-          };
-      held = held;
-      deliver = deliver;
-      reply = reply;
-    }
+-- a refusal by this number, and what P says of it
+abbrev pub RefusedBy : ℕ → (Refusal → Type 0) → Type 0
+RefusedBy n P = (why : Refusal) × (number_of why ≡ n) × P why
 
-abbrev pub elapsed_stands : List Record → List ℕ → ℕ → ElapsedEnds
-elapsed_stands ts cells number =
-    record {
-      answer = record { table = ts; number = number; cells = map (λ r. record { event = event.Nothing; len = 0 }) ts };
-      cells = cells;
-    }
+abbrev pub message_stands : List ℕ → List ℕ → List ℕ → Refusal → MessageEnds
+message_stands held deliver reply why = record { answer = Err why; held = held; deliver = deliver; reply = reply }
 
-abbrev pub leave_stands : List Record → List ℕ → ℕ → LeaveEnds
-leave_stands ts reply number = record { answer = record { table = ts; number = number; at = 0; reply = 0 }; reply = reply }
+abbrev pub elapsed_stands : List ℕ → Refusal → ElapsedEnds
+elapsed_stands cells why = record { answer = Err why; cells = cells }
+
+abbrev pub leave_stands : List ℕ → Refusal → LeaveEnds
+leave_stands reply why = record { answer = Err why; reply = reply }

@@ -10,6 +10,7 @@ use lib.ListN.{length, get_or, take, drop, take-append-drop}
 use lib.Seq.{get_or-drop, take_all, take-length}
 use lib.Dec.{lit<, eqb}
 use borrow.Author.Tests.{leb-true, eqb-true, ne_eqb}
+use Rattle.std.specs.Prelude.{None, Ok, Err}
 use Rattle.octets.specs.Octets.{octets, part, number_at, joined, Octets}
 use Rattle.octets.proofs.Numbers.{octets_tail, octets_number, part_add, length_part, number_one}
 use Rattle.message.specs.Lengths.{reliable_wrapper, unreliable_wrapper, join, join_refuse, join_accept, leaving, ack, nak, get_sessions, null, ipv4, rows, look, length_of}
@@ -19,9 +20,10 @@ use Rattle.message.proofs.Readable.{null_length, ipv4_length, join_length, rowle
 use Rattle.message.specs.declared.Row.{Row}
 use Rattle.message.specs.declared.Message.{Message}
 use Rattle.message.specs.declared.Message.TheVariants as message
-use Rattle.message.specs.declared.MessageRead.TheVariants.{Read, Unreadable}
+use Rattle.refusal.specs.declared.Refusal.TheVariants as refusal
 use Rattle.writing.specs.Fields.{cid_octets, membership_octets, wrapper_octets, parameters_octets, address_octets, join_octets, fields_of}
 use Rattle.writing.specs.Writing.{vector_of, address_of as addressType, has_form, carried_of, contents_of}
+use Rattle.demands.specs.Runs.{Each, none, more}
 
 -- ---- parts of data
 
@@ -55,21 +57,16 @@ all_parts d ns h = joined_parts d 0 ns ∙ take_all (sum ns) d h
 
 -- ---- the table of lengths
 
--- P holds of the vector of each row
-abbrev Each : (ℕ → Type 0) → List Row → Type 0
-Each P [] = Unit
-Each P (r ∷ rs) = P r.vector × Each P rs
-
 by_test : {P : Type 0} (b : Bool) → (b ≡ true → P) → (b ≡ false → P) → P
 by_test true t f = t refl
 by_test false t f = f refl
 
--- then it holds of a vector that has a length in the table
-in_table : (P : ℕ → Type 0) (rs : List Row) (v a : ℕ) → Each P rs → look rs v a ≢ 0 → P v
+-- what holds of the vector of each row holds of a vector that has a length in the table
+in_table : (P : ℕ → Type 0) (rs : List Row) (v a : ℕ) → Each (λ r. P r.vector) rs → look rs v a ≢ None → P v
 unfolding look
 in_table P [] v a p h = absurd (h refl)
-in_table P (r ∷ rs) v a p h =
-    by_test (eqb v r.vector) (λ e. rw (eqb-true v r.vector e) p.0) (λ e. in_table P rs v a p.1 (λ z. h (rw e z)))
+in_table P (r ∷ rs) v a (more p ps) h =
+    by_test (eqb v r.vector) (λ e. rw (eqb-true v r.vector e) p) (λ e. in_table P rs v a ps (λ z. h (rw e z)))
 
 -- ---- what is to be proved of each vector
 
@@ -82,7 +79,7 @@ abbrev Kept : List ℕ → ℕ → Type 0
 Kept d v = readable v d ≡ true → has_form (message_of v d) ≡ true → Same v d (message_of v d)
 
 -- what is read is the message of data that is readable
-read_is : (b : Bool) (n m : Message) → cond b (Read n) Unreadable ≡ Read m → (b ≡ true) × (n ≡ m)
+read_is : (b : Bool) (n m : Message) → cond b (Ok n) (Err refusal.NoForm) ≡ Ok m → (b ≡ true) × (n ≡ m)
 read_is true n m e = (refl, cc)
 read_is false n m e = (cc, cc)
 
@@ -224,23 +221,19 @@ module _ (d : List ℕ) (o : Octets d) where
   unreliable_kept r f = (refl, wrapper_whole (leb-true 20 (length d) r))
 
   -- in the order of the rows, of which Join has two
-  each_kept : Each (Kept d) rows
-  each_kept = (
-    join_kept,
-    (
-      join_kept,
-      (
-        accept_kept,
-        (refuse_kept, (leaving_kept, (nak_kept, (sessions_kept, (ack_kept, (reliable_kept, (unreliable_kept, tt))))))),
-      ),
-    ),
-  )
+  each_kept : Each (λ r. Kept d r.vector) rows
+  each_kept =
+      more join_kept
+      (more join_kept
+      (more accept_kept
+      (more refuse_kept
+      (more leaving_kept (more nak_kept (more sessions_kept (more ack_kept (more reliable_kept (more unreliable_kept none)))))))))
 
   kept : (v : ℕ) → Kept d v
   unfolding length_of
   kept v r f = in_table (Kept d) rows v null each_kept (λ z. true≢false (sym r ∙ rowless v d z)) r f
 
-  pub again : (v : ℕ) (m : Message) → read_message v d ≡ Read m → has_form m ≡ true → Same v d m
+  pub again : (v : ℕ) (m : Message) → read_message v d ≡ Ok m → has_form m ≡ true → Same v d m
   unfolding read_message
   again v m e f =
       let p = read_is (readable v d) (message_of v d) m e in

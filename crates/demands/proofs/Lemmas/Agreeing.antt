@@ -8,12 +8,14 @@ use mathlib.Core.Path.{◌≡◌, refl, sym, ap, subst, ◌∙◌}
 use native.Mathlib.Omega.{arith}
 use lib.Dec.{ltb, eqb, lit<}
 use lib.ListN.{length, get_or}
-use borrow.Author.Tests.{ltb-false, eqb-true}
+use borrow.Author.Tests.{ltb-false}
+use Rattle.std.specs.Prelude.{Result, Ok, Err}
 use Rattle.octets.specs.Octets.{part}
 use Rattle.message.specs.Lengths.{reliable_wrapper}
 use Rattle.message.specs.Layouts.{cid_at, wrapper_of, join_of}
 use Rattle.message.specs.Reading.{contents}
 use Rattle.message.specs.declared.Cid.{Cid}
+use Rattle.refusal.specs.declared.Refusal.{Refusal}
 use Rattle.record.specs.Reasons.{leaving_reason}
 use Rattle.record.specs.WellFormed.{most_contents, well_formed}
 use Rattle.record.specs.With.{freed}
@@ -42,7 +44,7 @@ use Rattle.demands.specs.Runs.{Came}
 use Rattle.demands.specs.Calls as calls
 use Rattle.demands.specs.Calls.{Call}
 use Rattle.demands.specs.Refusals.{is_wrapper}
-use Rattle.demands.specs.Channel.{Channel, Told, wrapped, stays, planned, wrapper_on, join_on, elapsed_on, leave_on, one, slab}
+use Rattle.demands.specs.Channel.{Channel, Told, wrapped, stays, planned, by_step, wrapper_on, join_on, elapsed_on, leave_on, one, slab}
 use Rattle.demands.specs.TwoRuns.{contents_at, held_contents}
 use Rattle.demands.proofs.Lemmas.Slabs.{slab_place, slab_after, slab_delivered}
 
@@ -174,9 +176,10 @@ module _
             contents = same_contents (taken r w).after _ _ after_agree;
           }
 
-      plan_tells : (stepped r w).number ≡ 0 → Tells (planned (with h) w c (stepped r w).plan) (planned (with g) w c (stepped r w).plan)
-      plan_tells e =
-          subst (λ (p : Plan). Tells (planned (with h) w c p) (planned (with g) w c p)) (sym (stepped_taken r w e)) taken_tells
+      step_tells : (o : Result Plan Refusal) → stepped r w ≡ o → Tells (by_step (with h) w c o) (by_step (with g) w c o)
+      step_tells (Ok p) e =
+          subst (λ (q : Plan). Tells (planned (with h) w c q) (planned (with g) w c q)) (sym (stepped_taken r w p e)) taken_tells
+      step_tells (Err why) e = stood _
 
     wrapper_tells : (v : ℕ) (d : List ℕ) → Tells (wrapper_on (with h) v d) (wrapper_on (with g) v d)
     unfolding wrapper_on
@@ -184,10 +187,7 @@ module _
         let w = arrived_of (eqb v reliable_wrapper) (wrapper_of d) (length (contents d)) in
         either (ltb most_contents (length (contents d))) _ _ _ _
         (λ e. stood _)
-        (λ e.
-        either (eqb (stepped r w).number 0) _ _ _ _
-        (λ z. plan_tells w (contents d) refl (ltb-false most_contents (length (contents d)) e) (eqb-true (stepped r w).number 0 z))
-        (λ z. stood _))
+        (λ e. step_tells w (contents d) refl (ltb-false most_contents (length (contents d)) e) (stepped r w) refl)
 
     -- ---- every call
 

@@ -7,29 +7,29 @@ use mathlib.Core.Path.{◌≡◌, refl, subst}
 use lib.Dec.{eqb}
 use lib.ListN.{length, get_or}
 use borrow.Author.Tests.{eqb-true}
+use Rattle.std.specs.Prelude.{Result, Ok, Err}
 use Rattle.octets.specs.Octets.{number_at}
 use Rattle.message.specs.Lengths.{reliable_wrapper, unreliable_wrapper, join, join_refuse, join_accept, leaving, ack, nak}
 use Rattle.message.specs.Layouts.{reliable, cid_at, membership_of, wrapper_of, join_of}
 use Rattle.message.specs.Reading.{readable, fixed_of, message_of, read_message, contents}
 use Rattle.message.specs.declared.Cid.{Cid}
+use Rattle.message.specs.declared.Message.{Message}
 use Rattle.message.specs.declared.Message.TheVariants as message
-use Rattle.message.specs.declared.MessageRead.{MessageRead}
-use Rattle.message.specs.declared.MessageRead.TheVariants as read
+use Rattle.refusal.specs.declared.Refusal.{Refusal}
+use Rattle.refusal.specs.declared.Refusal.TheVariants as refusal
 use Rattle.record.specs.declared.Record.{Record}
 use Rattle.asking.specs.Asking.{wrapper_asks, join_asks, message_asks, read_asks, asked_of}
 use Rattle.asking.specs.declared.Asked.{Asked}
-use Rattle.asking.specs.declared.Asked.TheVariants as asked
 use Rattle.demands.specs.Refusals.{is_wrapper}
-use Rattle.demands.specs.Channel.{}
 
 -- data d that is readable or not, of a vector v that is a reliable wrapper's, an unreliable one's, a Join's or none of these
-abbrev read_as : ℕ → List ℕ → Bool → Bool → Bool → Bool → MessageRead
+abbrev read_as : ℕ → List ℕ → Bool → Bool → Bool → Bool → Result Message Refusal
 read_as v d r x y z =
     cond r
-    (read.Read
+    (Ok
     (cond x (message.ReliableWrapper (wrapper_of d))
     (cond y (message.UnreliableWrapper (wrapper_of d)) (cond z (message.Join (join_of d)) (fixed_of v d)))))
-    read.Unreadable
+    (Err refusal.NoForm)
 
 module _ (ts : List Record) (s o : Cid) (v : ℕ) (d : List ℕ) where
   pub asks_wrapper : readable v d ≡ true → is_wrapper v ≡ true
@@ -52,8 +52,8 @@ module _ (ts : List Record) (s o : Cid) (v : ℕ) (d : List ℕ) where
       rw (q, g)
 
 -- what is asked, and of a message that asks for more than a refusal how it came to it
-pub data Asks (ts : List Record) (s o : Cid) (v : ℕ) (d : List ℕ) : Asked → Type 0 where
-  refuses : (k : ℕ) → Asks ts s o v d (asked.Refused k)
+pub data Asks (ts : List Record) (s o : Cid) (v : ℕ) (d : List ℕ) : Result Asked Refusal → Type 0 where
+  refuses : (why : Refusal) → Asks ts s o v d (Err why)
   joins : readable v d ≡ true → eqb v join ≡ true → Asks ts s o v d (join_asks o (join_of d))
   wraps : readable v d ≡ true → is_wrapper v ≡ true
       → Asks ts s o v d (wrapper_asks ts s (eqb v reliable_wrapper) (wrapper_of d) (length (contents d)))
@@ -73,12 +73,12 @@ module _ (ts : List Record) (s o : Cid) (v : ℕ) (d : List ℕ) where
           (cond f (message.Nak (membership_of d) (reliable (number_at d 24 4)) (reliable (number_at d 28 4)))
           (message.GetSessions (cid_at d 0)))))))
           (length (contents d)))
-      by true b c e f = refuses 5
-      by false true c e f = refuses 5
-      by false false true e f = refuses 5
-      by false false false true f = refuses 4
-      by false false false false true = refuses 5
-      by false false false false false = refuses 5
+      by true b c e f = refuses refusal.NotForUs
+      by false true c e f = refuses refusal.NotForUs
+      by false false true e f = refuses refusal.NotForUs
+      by false false false true f = refuses refusal.NoForm
+      by false false false false true = refuses refusal.NotForUs
+      by false false false false false = refuses refusal.NotForUs
 
   pub asks : Asks ts s o v d (asked_of ts s o v d)
   unfolding asked_of read_message message_of
@@ -90,7 +90,7 @@ module _ (ts : List Record) (s o : Cid) (v : ℕ) (d : List ℕ) where
 
       by : (r x y z : Bool) → readable v d ≡ r → eqb v reliable_wrapper ≡ x → eqb v unreliable_wrapper ≡ y → eqb v join ≡ z
           → Asks ts s o v d (read_asks ts s o (read_as v d r x y z) (length (contents d)))
-      by false x y z e f g h = refuses 4
+      by false x y z e f g h = refuses refusal.NoForm
       by true true y z e f g h = wrapper f (wraps e (rw f))
       by true false true z e f g h = wrapper f (wraps e (rw (f, g)))
       by true false false true e f g h = joins e h

@@ -10,6 +10,7 @@ use lib.ListN.{length, take, drop, length-append}
 use lib.Seq.{get_or-append_seam, get_or-append-add, drop-append-add}
 use lib.Dec.{lit<, lit≤, leb}
 use borrow.Author.Tests.{le-ltb, le-leb}
+use Rattle.std.specs.Prelude.{Ok}
 use Rattle.octets.specs.Octets.{octets}
 use Rattle.octets.proofs.Numbers.{number_octets}
 use Rattle.octets.proofs.Writes.{part_splice}
@@ -28,11 +29,9 @@ use Rattle.message.specs.declared.Join.{Join}
 use Rattle.message.specs.declared.Wrapper.{Wrapper}
 use Rattle.message.specs.declared.Message.{Message}
 use Rattle.message.specs.declared.Message.TheVariants as message
-use Rattle.message.specs.declared.MessageRead.TheVariants.{Read}
 use Rattle.writing.specs.Fields.{cid_octets, membership_octets, wrapper_octets, parameters_octets, address_octets, join_octets, fields_of}
 use Rattle.writing.specs.Fits.{FitCid, FitMembership, FitWrapper, FitParameters, FitEndpoint, FitAddress, FitJoin, Fits}
 use Rattle.writing.specs.Writing.{vector_of, address_of as addressType, has_form, carried_of, contents_of, pdu_of, wrote, room_after}
-use Rattle.writing.specs.declared.Wrote.TheVariants.{Octets}
 
 -- ---- the layouts: each with any octets behind it, and the parameters, which end a Join, with any before them
 
@@ -129,7 +128,7 @@ join_back j a f e =
     )
 
 join_read : (j : Join) (a : Address) → FitJoin j → FitAddress a → has_form (message.Join (addressed j a)) ≡ true
-    → read_message join (join_octets (addressed j a) ++ []) ≡ Read (message.Join (addressed j a))
+    → read_message join (join_octets (addressed j a) ++ []) ≡ Ok (message.Join (addressed j a))
 unfolding read_message readable readable_join length_of look message_of join_octets address_octets cid_octets parameters_octets octets has_form addressType
 join_read j (address.Null p) f g h = rw (join_back j (address.Null p) f (null_back j p g))
 join_read j (address.Ipv4 e p) f g h = rw (join_back j (address.Ipv4 e p) f (ipv4_back j e p g.0 g.1))
@@ -139,7 +138,7 @@ join_read j (address.Other t) f g h = absurd (false≢true h)
 
 -- the data to which a message and its contents are written, read under the message's vector
 pub message_back : (m : Message) (c : List ℕ) → Fits m → has_form m ≡ true
-    → read_message (vector_of m) (fields_of m ++ contents_of m c) ≡ Read m
+    → read_message (vector_of m) (fields_of m ++ contents_of m c) ≡ Ok m
 unfolding read_message readable length_of look message_of fixed_of vector_of fields_of carried_of membership_octets cid_octets octets
 message_back (message.ReliableWrapper w) c f h = rw (wrapper_long w (take (length c) c), wrapper_back w (take (length c) c) f)
 message_back (message.UnreliableWrapper w) c f h = rw (wrapper_long w (take (length c) c), wrapper_back w (take (length c) c) f)
@@ -191,7 +190,7 @@ module _ (m : Message) (c : List ℕ) where
         (omega (arith, (short m).1, length-append (fields_of m) (contents_of m c)))
 
     module _ (r : List ℕ) (form : has_form m ≡ true) (room : length (pdu_of m c) ≤ length r) where
-      pub not_refused : wrote m c r ≡ Octets (length (pdu_of m c))
+      pub not_refused : wrote m c r ≡ Ok (length (pdu_of m c))
       unfolding wrote
       not_refused = rw (form, le-ltb (length r) (length (pdu_of m c)) room, le-ltb most_contents (length (contents_of m c)) contents)
 

@@ -3,14 +3,15 @@
 use Prim.Native.Nat.{ℕ}
 use mathlib.Core.Bool.{Bool, true, false, cond, not, ◌&&◌, and-eq-true_iff, false≢true}
 use mathlib.Core.List.{List, []}
-use mathlib.Core.Logic.{◌≢◌}
 use mathlib.Core.Path.{◌≡◌, refl, sym, ap, ◌∙◌}
 use native.Mathlib.Omega.{arith}
 use lib.Dec.{ltb, eqb}
 use lib.ListN.{length, get_or-map}
 use borrow.Author.Tests.{eqb-true, eq-eqb}
+use Rattle.std.specs.Prelude.{Option, Some}
 use Rattle.message.specs.Layouts.{cid_at}
 use Rattle.message.specs.declared.Cid.{Cid}
+use Rattle.refusal.specs.declared.Refusal.TheVariants as refusal
 use Rattle.record.specs.Reasons.{leaving_reason}
 use Rattle.record.specs.With.{freed}
 use Rattle.record.specs.declared.Record.{Record}
@@ -19,12 +20,10 @@ use Rattle.gap.specs.declared.Event.TheVariants as event
 use Rattle.gap.specs.declared.Elapsed.{Elapsed}
 use Rattle.joining.specs.Replies.{departure}
 use Rattle.table.specs.Table.{named, found, record_at, blank}
-use Rattle.table.specs.declared.Found.{Found}
-use Rattle.table.specs.declared.Found.TheVariants as search
 use Rattle.table.proofs.Tables.{set_there, set_here}
 use Rattle.sending.specs.Sent.{sent_of}
-use Rattle.member.specs.Sizes.{elapsed_sizes, leave_sizes, table_size, cid_size}
-use Rattle.member.specs.Elapsing.{longest, Passing, refused_elapsed, passing, elapsed_outcome, passed, sent_by}
+use Rattle.member.specs.Sizes.{elapsed_sizes, leave_sizes, table_size}
+use Rattle.member.specs.Elapsing.{longest, Passing, refused_elapsed, passing, elapsed_outcome, passed_table, sent_by}
 use Rattle.member.specs.Leaving.{Departing, refused_leave, departing, leave_for, leave_outcome}
 use Rattle.demands.specs.Runs.{Came}
 use Rattle.demands.specs.Calls as calls
@@ -33,6 +32,7 @@ use Rattle.demands.specs.Channel as channels
 use Rattle.demands.specs.Channel.{Channel, Told, refused, left, stays, elapsed_on, leave_on, one, is_cid, own, entry_at, channel_at, view_at, slab}
 use Rattle.demands.proofs.Lemmas.Lists.{standing}
 use Rattle.demands.proofs.Lemmas.Owned.{sender_is, is_sender, leave_sizes_lem, Has, it_has, meets}
+use Rattle.demands.proofs.Lemmas.Outcomes.{leave_cases}
 use Rattle.demands.proofs.Lemmas.OneMessage.{message_own, message_other}
 
 -- ---- elapsed time
@@ -43,17 +43,17 @@ module _ (s : State) (right : Right s) (cells ms : ℕ) where
   elapsed_accepted e = rw (right.eight, right.formed) (by (elapsed_sizes table_size cells) (ltb longest ms) e)
     where
       by : (a b : Bool) → a && not b ≡ true
-          → cond (not a) (refused_elapsed s.table 1) (cond b (refused_elapsed s.table 3) (passing s.table ms)) ≡ passing s.table ms
+          → cond (not a) (refused_elapsed s.table refusal.WrongSize) (cond b (refused_elapsed s.table refusal.TooMuchTime) (passing s.table ms)) ≡ passing s.table ms
       by true true e = absurd (false≢true e)
       by true false e = refl
       by false b e = absurd (false≢true e)
 
-  elapsed_refused : elapsed_sizes table_size cells && not (ltb longest ms) ≡ false → (passed (elapsed_outcome s.table cells ms)).table ≡ s.table
+  elapsed_refused : elapsed_sizes table_size cells && not (ltb longest ms) ≡ false → passed_table (elapsed_outcome s.table cells ms) ≡ s.table
   unfolding elapsed_outcome
   elapsed_refused e = rw (right.eight, right.formed) (by (elapsed_sizes table_size cells) (ltb longest ms) e)
     where
       by : (a b : Bool) → a && not b ≡ false
-          → (passed (cond (not a) (refused_elapsed s.table 1) (cond b (refused_elapsed s.table 3) (passing s.table ms)))).table ≡ s.table
+          → passed_table (cond (not a) (refused_elapsed s.table refusal.WrongSize) (cond b (refused_elapsed s.table refusal.TooMuchTime) (passing s.table ms))) ≡ s.table
       by true true e = standing s.table
       by true false e = absurd (false≢true (sym e))
       by false b e = standing s.table
@@ -94,18 +94,18 @@ module _ (i : ℕ) (owner : Cid) (channel : ℕ) (s : State) (right : Right s) (
   module _ (reply : ℕ) (sender : List ℕ) (name reason : ℕ) where
     -- a right table refuses nothing but sizes before it searches
     leave_comes : leave_outcome s.table reply sender name reason
-        ≡ cond (leave_sizes table_size reply (length sender)) (leave_for s.table reason (found 0 (cid_at sender 0) name s.table)) (refused_leave s.table 1)
+        ≡ cond (leave_sizes table_size reply (length sender)) (leave_for s.table reason (found (cid_at sender 0) name s.table)) (refused_leave s.table refusal.WrongSize)
     unfolding leave_outcome
     leave_comes = rw (right.eight, right.formed) (by (leave_sizes table_size reply (length sender)))
       where
         by : (b : Bool)
-            → cond (not b) (refused_leave s.table 1) (leave_for s.table reason (found 0 (cid_at sender 0) name s.table))
-            ≡ cond b (leave_for s.table reason (found 0 (cid_at sender 0) name s.table)) (refused_leave s.table 1)
+            → cond (not b) (refused_leave s.table refusal.WrongSize) (leave_for s.table reason (found (cid_at sender 0) name s.table))
+            ≡ cond b (leave_for s.table reason (found (cid_at sender 0) name s.table)) (refused_leave s.table refusal.WrongSize)
         by true = refl
         by false = refl
 
     -- record i is left
-    leaves_own : view_at i (leave_came s (leave_for s.table reason (search.At i))) ≡ leave_on (channel_at i s) reason
+    leaves_own : view_at i (leave_came s (leave_for s.table reason (Some i))) ≡ leave_on (channel_at i s) reason
     unfolding view_at channel_at leave_on departing
     leaves_own = by (leaving_reason reason)
       where
@@ -117,8 +117,8 @@ module _ (i : ℕ) (owner : Cid) (channel : ℕ) (s : State) (right : Right s) (
             }
 
         by : (b : Bool)
-            → view_at i (leave_came s (cond b (departing s.table i reason) (refused_leave s.table 10)))
-            ≡ cond b (seen (freed (record_at s.table i))) (stays (channel_at i s) (refused 10))
+            → view_at i (leave_came s (cond b (departing s.table i reason) (refused_leave s.table refusal.WrongReason)))
+            ≡ cond b (seen (freed (record_at s.table i))) (stays (channel_at i s) (refused refusal.WrongReason))
         by true = ap seen (set_here s.table i (freed (record_at s.table i)) (omega (arith, it.below, right.eight)))
         by false = refl
 
@@ -130,53 +130,33 @@ module _ (i : ℕ) (owner : Cid) (channel : ℕ) (s : State) (right : Right s) (
         mine : (is_cid owner sender ≡ true) × (eqb name channel ≡ true)
         mine = (and-eq-true_iff (is_cid owner sender) (eqb name channel)).0 e
 
-        finds : found 0 (cid_at sender 0) name s.table ≡ search.At i
+        finds : found (cid_at sender 0) name s.table ≡ Some i
         finds =
-            ap (λ (o : Cid). found 0 o name s.table) (sender_is owner sender mine.0)
-            ∙ ap (λ (c : ℕ). found 0 owner c s.table) (eqb-true name channel mine.1)
+            ap (λ (o : Cid). found o name s.table) (sender_is owner sender mine.0)
+            ∙ ap (λ (c : ℕ). found owner c s.table) (eqb-true name channel mine.1)
             ∙ it.finds
 
         by : (b : Bool)
-            → view_at i (leave_came s (cond b (leave_for s.table reason (found 0 (cid_at sender 0) name s.table)) (refused_leave s.table 1)))
-            ≡ cond b (leave_on (channel_at i s) reason) (stays (channel_at i s) (refused 1))
-        by true = ap (λ (f : Found). view_at i (leave_came s (leave_for s.table reason f))) finds ∙ leaves_own
+            → view_at i (leave_came s (cond b (leave_for s.table reason (found (cid_at sender 0) name s.table)) (refused_leave s.table refusal.WrongSize)))
+            ≡ cond b (leave_on (channel_at i s) reason) (stays (channel_at i s) (refused refusal.WrongSize))
+        by true = ap (λ (f : Option ℕ). view_at i (leave_came s (leave_for s.table reason f))) finds ∙ leaves_own
         by false = refl
 
-    -- another record is left
-    leaves_other : (k : ℕ) → k ≢ i → record_at (leave_for s.table reason (search.At k)).table i ≡ record_at s.table i
-    unfolding departing
-    leaves_other k z = by (leaving_reason reason)
-      where
-        by : (b : Bool) → record_at (cond b (departing s.table k reason) (refused_leave s.table 10)).table i ≡ record_at s.table i
-        by true = set_there s.table k (freed (record_at s.table k)) i z
-        by false = refl
-
-    -- a call that meets record i is the channel's own
-    leave_not_met : length sender ≡ cid_size → own owner channel (calls.leave reply sender name reason) ≡ false
-        → found 0 (cid_at sender 0) name s.table ≢ search.At i
-    unfolding own
-    leave_not_met sized other f =
-        let m = meets i owner channel s right has (cid_at sender 0) name f in
-        false≢true
-        (sym other ∙ (and-eq-true_iff (is_cid owner sender) (eqb name channel)).1 (is_sender owner sender sized m.0, eq-eqb name channel m.1))
-
+    -- a call that meets record i is the channel's own, so another leaves another record
     leave_other : own owner channel (calls.leave reply sender name reason) ≡ false
         → channel_at i (table_step s (calls.leave reply sender name reason)).state ≡ channel_at i s
-    unfolding table_step channel_at
+    unfolding own table_step channel_at departing
     leave_other other =
+        leave_cases s.table reply sender name reason (λ p. channel_at i (leave_came s p).state ≡ channel_at i s) (λ why. refl)
+        (λ k l f q.
         ap (λ (r : Record). record { at = r; held = slab i s.held })
-        (ap (λ (p : Departing). record_at p.table i) leave_comes ∙ by (leave_sizes table_size reply (length sender)) refl)
-      where
-        to : (f : Found) → found 0 (cid_at sender 0) name s.table ≡ f → length sender ≡ cid_size
-            → record_at (leave_for s.table reason f).table i ≡ record_at s.table i
-        to search.Nowhere f sized = refl
-        to (search.At k) f sized = leaves_other k (λ q. leave_not_met sized other (f ∙ ap search.At q))
-
-        by : (b : Bool) → leave_sizes table_size reply (length sender) ≡ b
-            → record_at (cond b (leave_for s.table reason (found 0 (cid_at sender 0) name s.table)) (refused_leave s.table 1)).table i
-            ≡ record_at s.table i
-        by true e = to (found 0 (cid_at sender 0) name s.table) refl (leave_sizes_lem _ reply (length sender) e)
-        by false e = refl
+        (set_there s.table k (freed (record_at s.table k)) i
+        (λ e.
+        let m = meets i owner channel s right has (cid_at sender 0) name (f ∙ ap Some e) in
+        false≢true
+        (sym other
+        ∙ (and-eq-true_iff (is_cid owner sender) (eqb name channel)).1
+        (is_sender owner sender (leave_sizes_lem _ reply (length sender) l) m.0, eq-eqb name channel m.1)))))
 
   -- ---- every call
 

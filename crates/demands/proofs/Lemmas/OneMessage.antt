@@ -9,6 +9,7 @@ use native.Mathlib.Omega.{arith}
 use lib.Dec.{ltb, eqb}
 use lib.ListN.{length, replicate, length-replicate}
 use borrow.Author.Tests.{ltb-false, eqb-true, eq-eqb}
+use Rattle.std.specs.Prelude.{Option, Some, None, is_some, Result, Ok, Err}
 use Rattle.message.specs.Lengths.{reliable_wrapper, join}
 use Rattle.message.specs.Layouts.{cid_at, wrapper_of, join_of}
 use Rattle.message.specs.Reading.{readable, contents}
@@ -16,42 +17,39 @@ use Rattle.message.specs.declared.Cid.{Cid}
 use Rattle.message.specs.declared.Address.{Address}
 use Rattle.message.specs.declared.Address.TheVariants as address
 use Rattle.message.specs.declared.Join.{Join}
-use Rattle.record.specs.Reasons.{illegal_parameters}
+use Rattle.refusal.specs.declared.Refusal.{Refusal}
+use Rattle.refusal.specs.declared.Refusal.TheVariants as refusal
 use Rattle.record.specs.WellFormed.{most_contents}
 use Rattle.record.specs.declared.Record.{Record}
-use Rattle.wrapper.specs.Taken.{stepped}
+use Rattle.record.specs.declared.reasons.Reason.TheVariants as reason
+use Rattle.wrapper.specs.Taken.{taken, stepped}
 use Rattle.wrapper.specs.declared.Arrived.{Arrived}
 use Rattle.wrapper.specs.declared.Plan.{Plan}
 use Rattle.joining.specs.Joining.{legal, existing_of, decide_at, decided, new_record}
 use Rattle.joining.specs.declared.Decision.{Decision}
 use Rattle.joining.specs.declared.Decision.TheVariants as decision
 use Rattle.table.specs.Table.{same, named, found, lowest_free, table_formed, record_at}
-use Rattle.table.specs.declared.Found.{Found}
-use Rattle.table.specs.declared.Found.TheVariants as search
-use Rattle.table.proofs.Finding.{found_at_lem, free_at}
-use Rattle.table.proofs.Tables.{named_is, set_there, set_here}
+use Rattle.table.proofs.Finding.{free_at}
+use Rattle.table.proofs.Tables.{set_there, set_here}
 use Rattle.sending.specs.Sent.{reply_of, join_reply_of}
 use Rattle.carry.specs.Carried.{Delivered, held_after, delivered_by}
 use Rattle.carry.specs.Fits.{Fits}
-use Rattle.carry.proofs.PlanFits.{stepped_fits}
+use Rattle.carry.proofs.PlanFits.{plan_fits, stepped_fits}
 use Rattle.asking.specs.Asking.{arrived_of, wrapper_for, wrapper_asks, join_asks, asked_of}
 use Rattle.asking.specs.declared.Asked.{Asked}
 use Rattle.asking.specs.declared.Asked.TheVariants as asked
 use Rattle.member.specs.Sizes.{message_sizes, table_size, cid_size}
-use Rattle.member.specs.Messages.{Outcome, refused_message, existing_at, is_found, table_after, join_done, join_outcome, plan_outcome, wrapper_outcome, asked_outcome, message_outcome}
+use Rattle.member.specs.Messages.{Outcome, refused_message, existing_at, table_after, join_done, join_outcome, plan_outcome, stepped_outcome, wrapper_outcome, asked_outcome, message_outcome}
 use Rattle.demands.specs.Runs.{Came}
 use Rattle.demands.specs.Calls as calls
 use Rattle.demands.specs.Calls.{State, Answer, lent_as, message_came, table_step, Right}
 use Rattle.demands.specs.Refusals.{is_wrapper}
 use Rattle.demands.specs.Channel.{Channel, Told, refused, wrapped, joined, stays, planned, by_step, wrapper_on, join_on, one, names, is_cid, own, channel_at, view_at, slab}
 use Rattle.demands.proofs.Lemmas.Slabs.{slab_after, slab_other, slab_delivered}
-use Rattle.demands.proofs.Lemmas.Asks.{Asks, refuses, joins, wraps, asks, asks_wrapper, asks_join}
+use Rattle.demands.proofs.Lemmas.Asks.{asks_wrapper, asks_join}
+use Rattle.demands.proofs.Lemmas.OneStep.{brought}
+use Rattle.demands.proofs.Lemmas.Outcomes.{Carries, Sized, message_cases}
 use Rattle.demands.proofs.Lemmas.Owned.{sender_is, is_sender, Names, names_is, wrapper_names, message_sizes_lem, Has, it_has, meets}
-
--- ---- choices
-
-when : {A : Type 0} (b : Bool) (x y : A) → b ≡ true → cond b x y ≡ x
-when b x y e = rw e
 
 -- ---- the octets lent
 
@@ -70,8 +68,8 @@ lent_back false held other = refl
 -- ---- the call
 
 -- an outcome that stands in the caller's memory as it is
-abbrev taken : Outcome → Came State Answer
-taken out = record { state = record { table = out.table; held = out.held }; answer = calls.message out }
+abbrev in_memory : Outcome → Came State Answer
+in_memory out = record { state = record { table = out.table; held = out.held }; answer = calls.message out }
 
 module _ (s : State) (right : Right s) (held deliver reply : ℕ) (sender ours : List ℕ) (v : ℕ) (d : List ℕ) (n : ℕ) where
   abbrev sizes : Bool
@@ -83,7 +81,7 @@ module _ (s : State) (right : Right s) (held deliver reply : ℕ) (sender ours :
 
   -- a right table refuses nothing but sizes before it looks at what is asked
   message_comes : table_step s (calls.message held deliver reply sender ours v d n)
-      ≡ cond sizes (taken outcome) (record { state = s; answer = calls.message (refused_message s.table (lent_as held s.held) 1) })
+      ≡ cond sizes (in_memory outcome) (record { state = s; answer = calls.message (refused_message s.table (lent_as held s.held) refusal.WrongSize) })
   unfolding table_step message_outcome
   message_comes =
       ap (λ (b : Bool). came b) lengths ∙ by sizes refl
@@ -91,8 +89,8 @@ module _ (s : State) (right : Right s) (held deliver reply : ℕ) (sender ours :
       came : Bool → Came State Answer
       came b =
           message_came s held
-          (cond (not b) (refused_message s.table (lent_as held s.held) 1)
-          (cond (not (table_formed s.table)) (refused_message s.table (lent_as held s.held) 2)
+          (cond (not b) (refused_message s.table (lent_as held s.held) refusal.WrongSize)
+          (cond (not (table_formed s.table)) (refused_message s.table (lent_as held s.held) refusal.WrongTable)
           (asked_outcome s.table (lent_as held s.held) (cid_at sender 0) n (contents d) (asked_of s.table (cid_at sender 0) (cid_at ours 0) v d))))
 
       lengths : message_sizes (length s.table) (length (lent_as held s.held)) deliver reply (length sender) (length ours) ≡ sizes
@@ -100,24 +98,24 @@ module _ (s : State) (right : Right s) (held deliver reply : ℕ) (sender ours :
           ap₂ (λ (a b : ℕ). message_sizes a b deliver reply (length sender) (length ours)) right.eight (lent_length held s.held)
 
       by : (b : Bool) → sizes ≡ b
-          → came b ≡ cond b (taken outcome) (record { state = s; answer = calls.message (refused_message s.table (lent_as held s.held) 1) })
+          → came b ≡ cond b (in_memory outcome) (record { state = s; answer = calls.message (refused_message s.table (lent_as held s.held) refusal.WrongSize) })
       by true e =
           let q : held ≡ length s.held = (message_sizes_lem _ held deliver reply (length sender) (length ours) e).0 ∙ sym right.size in
           let t : eqb held (length s.held) ≡ true = eq-eqb held (length s.held) q in
           rw (right.formed, t)
       by false e =
           ap
-          (λ (h : List ℕ). record { state = record { table = s.table; held = h }; answer = calls.message (refused_message s.table (lent_as held s.held) 1) })
+          (λ (h : List ℕ). record { state = record { table = s.table; held = h }; answer = calls.message (refused_message s.table (lent_as held s.held) refusal.WrongSize) })
           (lent_back (eqb held (length s.held)) s.held (replicate held 0))
 
 -- ---- the channel's own messages
 
 -- the answer to a Join that meets a record does not depend on free ones
-decided_known : (j : Join) (r : Record) (n : ℕ) (free : Bool) → decided j (existing_of r) n free ≡ decided j (existing_of r) n true
+decided_known : (j : Join) (r : Record) (n : ℕ) (free : Bool) → decided j (Some (existing_of r)) n free ≡ decided j (Some (existing_of r)) n true
 unfolding decided
-decided_known j r n free = ap (λ (a : Decision). cond (legal j) a (decision.Refuse illegal_parameters)) (by j.address)
+decided_known j r n free = ap (λ (a : Decision). cond (legal j) a (decision.Refuse reason.IllegalParameters)) (by j.address)
   where
-    by : (a : Address) → decide_at a (existing_of r) j.mid n free ≡ decide_at a (existing_of r) j.mid n true
+    by : (a : Address) → decide_at a (Some (existing_of r)) j.mid n free ≡ decide_at a (Some (existing_of r)) j.mid n true
     by (address.Null p) = refl
     by (address.Ipv4 e p) = refl
     by (address.Other t) = refl
@@ -128,7 +126,7 @@ module _ (i : ℕ) (owner : Cid) (channel : ℕ) (s : State) (right : Right s) (
 
   -- a plan of record i
   plan_own : (w : Arrived) (c : List ℕ) (p : Plan) → Fits p → length c ≤ most_contents
-      → view_at i (taken (plan_outcome s.table s.held i w c p)) ≡ planned (channel_at i s) w c p
+      → view_at i (in_memory (plan_outcome s.table s.held i w c p)) ≡ planned (channel_at i s) w c p
   unfolding view_at channel_at plan_outcome planned
   plan_own w c p fits most =
       ap (λ (r : Record). seen r (slab i (held_after i p.fate c s.held)) (delivered_by s.held i w c p))
@@ -146,29 +144,21 @@ module _ (i : ℕ) (owner : Cid) (channel : ℕ) (s : State) (right : Right s) (
           }
 
   step_own : (w : Arrived) (c : List ℕ) → w.len ≡ length c → length c ≤ most_contents
-      → view_at i (taken (wrapper_outcome s.table s.held i w c)) ≡ by_step (channel_at i s) w c (stepped (record_at s.table i) w)
+      → view_at i (in_memory (wrapper_outcome s.table s.held i w c)) ≡ by_step (channel_at i s) w c (stepped (record_at s.table i) w)
   unfolding wrapper_outcome view_at channel_at
-  step_own w c said most = by (eqb (stepped (record_at s.table i) w).number 0) refl
+  step_own w c said most = by (stepped (record_at s.table i) w) refl
     where
-      by : (b : Bool) → eqb (stepped (record_at s.table i) w).number 0 ≡ b
-          → view_at i
-          (taken
-          (cond b (plan_outcome s.table s.held i w c (stepped (record_at s.table i) w).plan)
-          (refused_message s.table s.held (stepped (record_at s.table i) w).number)))
-          ≡ cond b (planned (channel_at i s) w c (stepped (record_at s.table i) w).plan)
-          (stays (channel_at i s) (refused (stepped (record_at s.table i) w).number))
-      by true e =
-          plan_own w c (stepped (record_at s.table i) w).plan
-          (stepped_fits (record_at s.table i) w it.used (it.formed.each i) it.four (omega arith)
-          (eqb-true (stepped (record_at s.table i) w).number 0 e))
-          most
-      by false e = refl
+      by : (r : Result Plan Refusal) → stepped (record_at s.table i) w ≡ r
+          → view_at i (in_memory (stepped_outcome s.table s.held i w c r)) ≡ by_step (channel_at i s) w c r
+      by (Ok p) e =
+          plan_own w c p (stepped_fits (record_at s.table i) w it.used (it.formed.each i) it.four (omega arith) p e) most
+      by (Err why) e = refl
 
   wrapper_own : (v : ℕ) (d : List ℕ) (n : ℕ)
       → view_at i
-      (taken
+      (in_memory
       (asked_outcome s.table s.held owner n (contents d)
-      (wrapper_for (search.At i) (eqb v reliable_wrapper) (wrapper_of d) (length (contents d)))))
+      (wrapper_for (Some i) (eqb v reliable_wrapper) (wrapper_of d) (length (contents d)))))
       ≡ wrapper_on (channel_at i s) v d
   unfolding wrapper_on view_at channel_at
   wrapper_own v d n = by (ltb most_contents (length (contents d))) refl
@@ -177,74 +167,74 @@ module _ (i : ℕ) (owner : Cid) (channel : ℕ) (s : State) (right : Right s) (
       w = arrived_of (eqb v reliable_wrapper) (wrapper_of d) (length (contents d))
 
       by : (b : Bool) → ltb most_contents (length (contents d)) ≡ b
-          → view_at i (taken (asked_outcome s.table s.held owner n (contents d) (cond b (asked.Refused 7) (asked.Wrapper i w))))
-          ≡ cond b (stays (channel_at i s) (refused 7)) (by_step (channel_at i s) w (contents d) (stepped (record_at s.table i) w))
+          → view_at i (in_memory (asked_outcome s.table s.held owner n (contents d) (cond b (Err refusal.ContentsOver) (Ok (asked.Wrapper i w)))))
+          ≡ cond b (stays (channel_at i s) (refused refusal.ContentsOver)) (by_step (channel_at i s) w (contents d) (stepped (record_at s.table i) w))
       by true e = refl
       by false e = step_own w (contents d) refl (ltb-false most_contents (length (contents d)) e)
 
   -- no answer to a Join changes a used record
   join_leaves : (o : Cid) (j : Join) (n : ℕ) (answer : Decision)
-      → record_at (table_after s.table o j n answer (lowest_free 0 s.table)) i ≡ record_at s.table i
-  join_leaves o j n = by (lowest_free 0 s.table) refl
+      → record_at (table_after s.table o j n answer (lowest_free s.table)) i ≡ record_at s.table i
+  join_leaves o j n = by (lowest_free s.table) refl
     where
-      by : (f : Found) → lowest_free 0 s.table ≡ f → (answer : Decision) → record_at (table_after s.table o j n answer f) i ≡ record_at s.table i
+      by : (f : Option ℕ) → lowest_free s.table ≡ f → (answer : Decision) → record_at (table_after s.table o j n answer f) i ≡ record_at s.table i
       by f e (decision.Refuse reason) = refl
       by f e (decision.Again r reciprocal) = refl
-      by (search.At k) e (decision.Make p) =
+      by (Some k) e (decision.Make p) =
           set_there s.table k (new_record (record_at s.table k) o j p n) i
           (λ q. false≢true (sym (free_at s.table k e).1 ∙ ap (λ (m : ℕ). (record_at s.table m).used) q ∙ it.used))
-      by search.Nowhere e (decision.Make p) = refl
+      by None e (decision.Make p) = refl
 
   -- a Join that is answered so leaves the channel and answers so
-  join_done_lem : (o : Cid) (j : Join) (n : ℕ) (known : Found) (answer : Decision)
-      → view_at i (taken (join_done s.table s.held o j n known (lowest_free 0 s.table) answer))
+  join_done_lem : (o : Cid) (j : Join) (n : ℕ) (known : Option ℕ) (answer : Decision)
+      → view_at i (in_memory (join_done s.table s.held o j n known (lowest_free s.table) answer))
       ≡ stays (channel_at i s) (joined answer (join_reply_of o j n answer))
   unfolding view_at channel_at
   join_done_lem o j n known answer =
       ap (λ (r : Record). stays (record { at = r; held = slab i s.held }) (joined answer (join_reply_of o j n answer))) (join_leaves o j n answer)
 
   join_own : (ours : List ℕ) (j : Join) (n : ℕ) (c : List ℕ) → j.channel ≡ channel
-      → view_at i (taken (asked_outcome s.table s.held owner n c (join_asks (cid_at ours 0) j))) ≡ join_on (channel_at i s) owner ours j n
+      → view_at i (in_memory (asked_outcome s.table s.held owner n c (join_asks (cid_at ours 0) j))) ≡ join_on (channel_at i s) owner ours j n
   unfolding join_asks join_outcome join_on view_at channel_at
   join_own ours j n c ch = by (same j.cid (cid_at ours 0))
     where
       answer : Decision
-      answer = decided j (existing_of (record_at s.table i)) n true
+      answer = decided j (Some (existing_of (record_at s.table i))) n true
 
-      met : found 0 owner j.channel s.table ≡ search.At i
-      met = ap (λ (k : ℕ). found 0 owner k s.table) ch ∙ it.finds
+      met : found owner j.channel s.table ≡ Some i
+      met = ap (λ (k : ℕ). found owner k s.table) ch ∙ it.finds
 
-      decides : decided j (existing_at s.table (found 0 owner j.channel s.table)) n (is_found (lowest_free 0 s.table)) ≡ answer
+      decides : decided j (existing_at s.table (found owner j.channel s.table)) n (is_some (lowest_free s.table)) ≡ answer
       decides =
-          ap (λ (f : Found). decided j (existing_at s.table f) n (is_found (lowest_free 0 s.table))) met
-          ∙ decided_known j (record_at s.table i) n (is_found (lowest_free 0 s.table))
+          ap (λ (f : Option ℕ). decided j (existing_at s.table f) n (is_some (lowest_free s.table))) met
+          ∙ decided_known j (record_at s.table i) n (is_some (lowest_free s.table))
 
       by : (b : Bool)
-          → view_at i (taken (asked_outcome s.table s.held owner n c (cond b (asked.Join j) (asked.Refused 5))))
-          ≡ cond b (stays (channel_at i s) (joined answer (join_reply_of owner j n answer))) (stays (channel_at i s) (refused 5))
+          → view_at i (in_memory (asked_outcome s.table s.held owner n c (cond b (Ok (asked.Join j)) (Err refusal.NotForUs))))
+          ≡ cond b (stays (channel_at i s) (joined answer (join_reply_of owner j n answer))) (stays (channel_at i s) (refused refusal.NotForUs))
       by true =
           ap
           (λ (a : Decision).
-          view_at i (taken (join_done s.table s.held owner j n (found 0 owner j.channel s.table) (lowest_free 0 s.table) a)))
+          view_at i (in_memory (join_done s.table s.held owner j n (found owner j.channel s.table) (lowest_free s.table) a)))
           decides
-          ∙ join_done_lem owner j n (found 0 owner j.channel s.table) answer
+          ∙ join_done_lem owner j n (found owner j.channel s.table) answer
       by false = refl
 
   -- a message that names the channel and comes from its owner
   asked_own : (ours : List ℕ) (v : ℕ) (d : List ℕ) (n : ℕ) → Names channel v d
-      → view_at i (taken (asked_outcome s.table s.held owner n (contents d) (asked_of s.table owner (cid_at ours 0) v d)))
+      → view_at i (in_memory (asked_outcome s.table s.held owner n (contents d) (asked_of s.table owner (cid_at ours 0) v d)))
       ≡ cond (is_wrapper v) (wrapper_on (channel_at i s) v d) (join_on (channel_at i s) owner ours (join_of d) n)
   unfolding wrapper_asks
   asked_own ours v d n (readable, inl (w, c)) =
-      ap (λ (a : Asked). view_at i (taken (asked_outcome s.table s.held owner n (contents d) a)))
+      ap (λ (a : Result Asked Refusal). view_at i (in_memory (asked_outcome s.table s.held owner n (contents d) a)))
       (asks_wrapper s.table owner (cid_at ours 0) v d readable w
-      ∙ ap (λ (f : Found). wrapper_for f (eqb v reliable_wrapper) (wrapper_of d) (length (contents d)))
-      (ap (λ (k : ℕ). found 0 owner k s.table) c ∙ it.finds))
+      ∙ ap (λ (f : Option ℕ). wrapper_for f (eqb v reliable_wrapper) (wrapper_of d) (length (contents d)))
+      (ap (λ (k : ℕ). found owner k s.table) c ∙ it.finds))
       ∙ wrapper_own v d n
-      ∙ sym (when (is_wrapper v) _ _ w)
+      ∙ sym (rw w refl)
   asked_own ours v d n (readable, inr (e, c)) =
       let q : v ≡ join = eqb-true v join e in
-      ap (λ (a : Asked). view_at i (taken (asked_outcome s.table s.held owner n (contents d) a)))
+      ap (λ (a : Result Asked Refusal). view_at i (in_memory (asked_outcome s.table s.held owner n (contents d) a)))
       (asks_join s.table owner (cid_at ours 0) v d readable e)
       ∙ join_own ours (join_of d) n (contents d) c
       ∙ sym (ap (λ (u : ℕ). cond (is_wrapper u) (wrapper_on (channel_at i s) v d) (join_on (channel_at i s) owner ours (join_of d) n)) q)
@@ -263,132 +253,56 @@ module _ (i : ℕ) (owner : Cid) (channel : ℕ) (s : State) (right : Right s) (
 
         by : (b : Bool)
             → view_at i
-            (cond b (taken (asked_outcome s.table s.held (cid_at sender 0) n (contents d) (asked_of s.table (cid_at sender 0) (cid_at ours 0) v d)))
-            (record { state = s; answer = calls.message (refused_message s.table (lent_as held s.held) 1) }))
+            (cond b (in_memory (asked_outcome s.table s.held (cid_at sender 0) n (contents d) (asked_of s.table (cid_at sender 0) (cid_at ours 0) v d)))
+            (record { state = s; answer = calls.message (refused_message s.table (lent_as held s.held) refusal.WrongSize) }))
             ≡ cond b (cond (is_wrapper v) (wrapper_on (channel_at i s) v d) (join_on (channel_at i s) owner ours (join_of d) n))
-            (stays (channel_at i s) (refused 1))
+            (stays (channel_at i s) (refused refusal.WrongSize))
         by true =
-            ap (λ (o : Cid). view_at i (taken (asked_outcome s.table s.held o n (contents d) (asked_of s.table o (cid_at ours 0) v d))))
+            ap (λ (o : Cid). view_at i (in_memory (asked_outcome s.table s.held o n (contents d) (asked_of s.table o (cid_at ours 0) v d))))
             (sender_is owner sender mine.0)
             ∙ asked_own ours v d n (names_is channel v d mine.1)
         by false = refl
 
     -- ---- any other message
 
-    -- a plan of another record
-    plan_other : (k : ℕ) (w : Arrived) (c : List ℕ) (p : Plan) → k < 8 → i ≢ k → Fits p → length c ≤ most_contents
-        → channel_at i (taken (plan_outcome s.table s.held k w c p)).state ≡ channel_at i s
-    unfolding channel_at plan_outcome
-    plan_other k w c p hk z fits most =
-        ap₂ (λ (r : Record) (h : List ℕ). record { at = r; held = h })
-        (set_there s.table k p.after i (λ e. z (sym e)))
-        (slab_other k p.fate c s.held hk fits.place most right.size i z)
+    -- whatever is answered, the channel stands where the call is not its own
+    abbrev Stands : Outcome → Type 0
+    Stands out = channel_at i (message_came s held out).state ≡ channel_at i s
 
-    module _ (sized : length sender ≡ cid_size) (other : own owner channel (calls.message held deliver reply sender ours v d n) ≡ false) where
-      -- a wrapper that meets record i is the channel's own
-      not_met : readable v d ≡ true → is_wrapper v ≡ true → found 0 (cid_at sender 0) (wrapper_of d).channel s.table ≢ search.At i
-      unfolding own
-      not_met r w f =
-          let m = meets i owner channel s right has (cid_at sender 0) (wrapper_of d).channel f in
-          false≢true
-          (sym other
-          ∙ (and-eq-true_iff (is_cid owner sender) (names channel v d)).1
-          (is_sender owner sender sized m.0, wrapper_names channel v d r w m.1))
-
-      -- a wrapper that meets record k
-      step_other : (k : ℕ) (w : Arrived) → found 0 (cid_at sender 0) (wrapper_of d).channel s.table ≡ search.At k → i ≢ k
-          → w.len ≡ length (contents d) → length (contents d) ≤ most_contents
-          → channel_at i (taken (wrapper_outcome s.table s.held k w (contents d))).state ≡ channel_at i s
-      unfolding wrapper_outcome
-      step_other k w f z said most = by (eqb (stepped (record_at s.table k) w).number 0) refl
-        where
-          by : (b : Bool) → eqb (stepped (record_at s.table k) w).number 0 ≡ b
-              → channel_at i
-              (taken
-              (cond b (plan_outcome s.table s.held k w (contents d) (stepped (record_at s.table k) w).plan)
-              (refused_message s.table s.held (stepped (record_at s.table k) w).number))
-              ).state
-              ≡ channel_at i s
-          by true e =
-              let met = found_at_lem (cid_at sender 0) (wrapper_of d).channel s.table k f in
-              let below : k < 8 = omega (arith, met.0, right.eight) in
-              plan_other k w (contents d) (stepped (record_at s.table k) w).plan below z
-              (stepped_fits (record_at s.table k) w
-              (named_is (cid_at sender 0) (wrapper_of d).channel (record_at s.table k) met.1).0
-              (it.formed.each k)
-              (right.sound k below).four
-              (omega arith)
-              (eqb-true (stepped (record_at s.table k) w).number 0 e))
-              most
-          by false e = refl
-
-      wrapper_other : readable v d ≡ true → is_wrapper v ≡ true
-          → channel_at i
-          (taken
-          (asked_outcome s.table s.held (cid_at sender 0) n (contents d)
-          (wrapper_asks s.table (cid_at sender 0) (eqb v reliable_wrapper) (wrapper_of d) (length (contents d))))
-          ).state
-          ≡ channel_at i s
-      unfolding wrapper_asks
-      wrapper_other r u =
-          by (found 0 (cid_at sender 0) (wrapper_of d).channel s.table) refl (ltb most_contents (length (contents d))) refl
-        where
-          w : Arrived
-          w = arrived_of (eqb v reliable_wrapper) (wrapper_of d) (length (contents d))
-
-          on : (k : ℕ) → found 0 (cid_at sender 0) (wrapper_of d).channel s.table ≡ search.At k
-              → (b : Bool) → ltb most_contents (length (contents d)) ≡ b
-              → channel_at i
-              (taken (asked_outcome s.table s.held (cid_at sender 0) n (contents d) (cond b (asked.Refused 7) (asked.Wrapper k w)))).state
-              ≡ channel_at i s
-          on k f true e = refl
-          on k f false e =
-              step_other k w f (λ q. not_met r u (f ∙ ap search.At (sym q))) refl (ltb-false most_contents (length (contents d)) e)
-
-          by : (f : Found) → found 0 (cid_at sender 0) (wrapper_of d).channel s.table ≡ f → (b : Bool) → ltb most_contents (length (contents d)) ≡ b
-              → channel_at i
-              (taken
-              (asked_outcome s.table s.held (cid_at sender 0) n (contents d)
-              (wrapper_for f (eqb v reliable_wrapper) (wrapper_of d) (length (contents d))))
-              ).state
-              ≡ channel_at i s
-          by search.Nowhere f b e = refl
-          by (search.At k) f b e = on k f (ltb most_contents (length (contents d))) refl
-
-      join_other : (j : Join)
-          → channel_at i (taken (asked_outcome s.table s.held (cid_at sender 0) n (contents d) (join_asks (cid_at ours 0) j))).state
-          ≡ channel_at i s
-      unfolding join_asks join_outcome channel_at
-      join_other j = by (same j.cid (cid_at ours 0))
-        where
-          by : (b : Bool)
-              → channel_at i (taken (asked_outcome s.table s.held (cid_at sender 0) n (contents d) (cond b (asked.Join j) (asked.Refused 5)))).state
-              ≡ channel_at i s
-          by true =
-              ap (λ (r : Record). record { at = r; held = slab i s.held })
-              (join_leaves (cid_at sender 0) j n
-              (decided j (existing_at s.table (found 0 (cid_at sender 0) j.channel s.table)) n (is_found (lowest_free 0 s.table))))
-          by false = refl
-
-      asked_other : (a : Asked) → Asks s.table (cid_at sender 0) (cid_at ours 0) v d a
-          → channel_at i (taken (asked_outcome s.table s.held (cid_at sender 0) n (contents d) a)).state ≡ channel_at i s
-      asked_other a (refuses k) = refl
-      asked_other a (joins r e) = join_other (join_of d)
-      asked_other a (wraps r w) = wrapper_other r w
+    -- a refusal and the answer to a Join leave the octets that are held
+    same_held : cond (eqb held (length s.held)) (lent_as held s.held) s.held ≡ s.held
+    same_held = lent_back (eqb held (length s.held)) s.held (replicate held 0)
 
     pub message_other : own owner channel (calls.message held deliver reply sender ours v d n) ≡ false
         → channel_at i (table_step s (calls.message held deliver reply sender ours v d n)).state ≡ channel_at i s
+    unfolding own table_step channel_at join_outcome plan_outcome
     message_other other =
-        ap (λ (m : Came State Answer). channel_at i m.state) (message_comes s right held deliver reply sender ours v d n)
-        ∙ by (message_sizes table_size held deliver reply (length sender) (length ours)) refl
+        message_cases s.table (lent_as held s.held) deliver reply sender ours v d n Stands
+        (λ why. ap (λ (h : List ℕ). record { at = record_at s.table i; held = slab i h }) same_held)
+        (ap₂ (λ (r : Record) (h : List ℕ). record { at = r; held = slab i h }) (join_leaves (cid_at sender 0) (join_of d) n _) same_held)
+        plan_other
       where
-        by : (b : Bool) → message_sizes table_size held deliver reply (length sender) (length ours) ≡ b
-            → channel_at i
-            (cond b (taken (asked_outcome s.table s.held (cid_at sender 0) n (contents d) (asked_of s.table (cid_at sender 0) (cid_at ours 0) v d)))
-            (record { state = s; answer = calls.message (refused_message s.table (lent_as held s.held) 1) })
-            ).state
-            ≡ channel_at i s
-        by true e =
-            asked_other (message_sizes_lem _ held deliver reply (length sender) (length ours) e).1 other _
-            (asks s.table (cid_at sender 0) (cid_at ours 0) v d)
-        by false e = refl
+        -- a wrapper that meets record i is the channel's own
+        not_met : length sender ≡ cid_size → (k : ℕ) → Carries s.table (cid_at sender 0) v d k → i ≢ k
+        not_met sized k c q =
+            let m = meets i owner channel s right has (cid_at sender 0) (wrapper_of d).channel (c.finds ∙ ap Some (sym q)) in
+            false≢true
+            (sym other
+            ∙ (and-eq-true_iff (is_cid owner sender) (names channel v d)).1
+            (is_sender owner sender sized m.0, wrapper_names channel v d c.readable c.wrapper m.1))
+
+        -- so a plan is another record's
+        plan_other : Sized s.table (lent_as held s.held) deliver reply sender ours v d n → (k : ℕ) → Carries s.table (cid_at sender 0) v d k
+            → Stands (plan_outcome s.table (lent_as held s.held) k (brought v d) (contents d) (taken (record_at s.table k) (brought v d)))
+        plan_other sized k c =
+            let sizes = message_sizes_lem _ _ deliver reply _ _ sized in
+            let lent : eqb held (length s.held) ≡ true =
+            eq-eqb held (length s.held) (sym (lent_length held s.held) ∙ sizes.0 ∙ sym right.size) in
+            let below : k < 8 = omega (arith, c.within, right.eight) in
+            let fits =
+            plan_fits (record_at s.table k) (brought v d) c.used (it.formed.each k) (right.sound k below).four c.most in
+            let z = not_met sizes.1 k c in
+            rw lent
+            (ap₂ (λ (r : Record) (h : List ℕ). record { at = r; held = h })
+            (set_there s.table k _ i (λ e. z (sym e)))
+            (slab_other k (taken (record_at s.table k) (brought v d)).fate (contents d) s.held below fits.place c.most right.size i z))

@@ -7,19 +7,20 @@ use mathlib.Core.Path.{◌≡◌, refl}
 use lib.Dec.{ltb, eqb}
 use lib.ListN.{length}
 use borrow.Author.Tests.{ltb-false}
+use Rattle.std.specs.Prelude.{Some, Result, Ok, Err}
 use Rattle.message.specs.Lengths.{reliable_wrapper}
 use Rattle.message.specs.Layouts.{cid_at, wrapper_of, join_of}
 use Rattle.message.specs.Reading.{contents}
 use Rattle.message.specs.declared.Cid.{Cid}
 use Rattle.message.specs.declared.Join.{Join}
+use Rattle.refusal.specs.declared.Refusal.{Refusal}
+use Rattle.refusal.specs.declared.Refusal.TheVariants as refusal
 use Rattle.record.specs.Reasons.{leaving_reason}
 use Rattle.record.specs.With.{freed}
 use Rattle.record.specs.WellFormed.{most_contents}
 use Rattle.wrapper.specs.Judge.{judged}
 use Rattle.wrapper.specs.Taken.{taken, stepped_by, stepped}
 use Rattle.wrapper.specs.declared.Arrived.{Arrived}
-use Rattle.wrapper.specs.declared.Judged.{Judged}
-use Rattle.wrapper.specs.declared.Judged.TheVariants as judging
 use Rattle.joining.specs.Joining.{existing_of, decided}
 use Rattle.joining.specs.declared.Decision.{Decision}
 use Rattle.joining.specs.Replies.{departure}
@@ -36,7 +37,7 @@ use Rattle.demands.specs.Order.{time_of}
 
 -- a join_refuse_of, or the answer to a Join
 pub data Words : Told → Type 0 where
-  refuses : (n : ℕ) → Words (refused n)
+  refuses : (why : Refusal) → Words (refused why)
   joins : (d : Decision) (reply : List ℕ) → Words (joined d reply)
 
 -- the wrapper that a message brings
@@ -46,7 +47,7 @@ brought v d = arrived_of (eqb v reliable_wrapper) (wrapper_of d) (length (conten
 pub data Does (h : Channel) : Call → Came Channel Told → Type 0 where
   answers : {c : Call} (t : Told) → Words t → time_of c ≡ 0 → Does h c (stays h t)
   wraps : {held deliver reply : ℕ} {sender ours : List ℕ} (v : ℕ) (d : List ℕ) {n : ℕ} → is_wrapper v ≡ true → length (contents d) ≤ most_contents
-      → judged h.at (eqb v reliable_wrapper) (wrapper_of d).total (wrapper_of d).reliable ≡ judging.Fresh
+      → judged h.at (eqb v reliable_wrapper) (wrapper_of d).total (wrapper_of d).reliable ≡ Ok tt
       → Does h (calls.message held deliver reply sender ours v d n) (planned h (brought v d) (contents d) (taken h.at (brought v d)))
   passes : {cells : ℕ} (ms : ℕ) → Does h (calls.elapsed cells ms) (elapsed_on h ms)
   leaves : {reply : ℕ} {sender : List ℕ} {named : ℕ} (reason : ℕ)
@@ -58,11 +59,10 @@ pub data Does (h : Channel) : Call → Came Channel Told → Type 0 where
 
 module _ (h : Channel) where
   judged_does : {held deliver reply : ℕ} {sender ours : List ℕ} (v : ℕ) (d : List ℕ) {n : ℕ} → is_wrapper v ≡ true → length (contents d) ≤ most_contents
-      → (j : Judged) → judged h.at (eqb v reliable_wrapper) (wrapper_of d).total (wrapper_of d).reliable ≡ j
+      → (j : Result (Unit {0}) Refusal) → judged h.at (eqb v reliable_wrapper) (wrapper_of d).total (wrapper_of d).reliable ≡ j
       → Does h (calls.message held deliver reply sender ours v d n) (by_step h (brought v d) (contents d) (stepped_by j h.at (brought v d)))
-  judged_does v d w l judging.Old e = answers (refused 8) (refuses 8) refl
-  judged_does v d w l judging.Inconsistent e = answers (refused 9) (refuses 9) refl
-  judged_does v d w l judging.Fresh e = wraps v d w l e
+  judged_does v d w l (Err why) e = answers _ (refuses why) refl
+  judged_does v d w l (Ok tt) e = wraps v d w l e
 
   wrapper_does : {held deliver reply : ℕ} {sender ours : List ℕ} (v : ℕ) (d : List ℕ) {n : ℕ} → is_wrapper v ≡ true
       → Does h (calls.message held deliver reply sender ours v d n) (wrapper_on h v d)
@@ -71,8 +71,8 @@ module _ (h : Channel) where
     where
       by : {held deliver reply : ℕ} {sender ours : List ℕ} {n : ℕ} (b : Bool) → ltb most_contents (length (contents d)) ≡ b
           → Does h (calls.message held deliver reply sender ours v d n)
-          (cond b (stays h (refused 7)) (by_step h (brought v d) (contents d) (stepped h.at (brought v d))))
-      by true e = answers (refused 7) (refuses 7) refl
+          (cond b (stays h (refused refusal.ContentsOver)) (by_step h (brought v d) (contents d) (stepped h.at (brought v d))))
+      by true e = answers _ (refuses refusal.ContentsOver) refl
       by false e = judged_does v d w (ltb-false _ _ e) _ refl
 
   join_does : (owner : Cid) (ours : List ℕ) (j : Join) (n : ℕ) (c : Call) → time_of c ≡ 0 → Does h c (join_on h owner ours j n)
@@ -82,10 +82,10 @@ module _ (h : Channel) where
       by : (b : Bool)
           → Does h c
           (cond b
-          (stays h (joined (decided j (existing_of h.at) n true) (join_reply_of owner j n (decided j (existing_of h.at) n true))))
-          (stays h (refused 5)))
+          (stays h (joined (decided j (Some (existing_of h.at)) n true) (join_reply_of owner j n (decided j (Some (existing_of h.at)) n true))))
+          (stays h (refused refusal.NotForUs)))
       by true = answers _ (joins _ _) z
-      by false = answers _ (refuses 5) z
+      by false = answers _ (refuses refusal.NotForUs) z
 
   leave_does : {reply : ℕ} {sender : List ℕ} {named : ℕ} (reason : ℕ) → Does h (calls.leave reply sender named reason) (leave_on h reason)
   unfolding leave_on
@@ -98,9 +98,9 @@ module _ (h : Channel) where
             state = record { at = freed h.at; held = h.held };
             answer = left (sent_of (departure h.at.terms h.at.reliable reason));
           })
-          (stays h (refused 10)))
+          (stays h (refused refusal.WrongReason)))
       by true = leaves reason
-      by false = answers _ (refuses 10) refl
+      by false = answers _ (refuses refusal.WrongReason) refl
 
   pub does : (owner : Cid) (c : Call) → Does h c (one owner h c)
   unfolding one
@@ -109,13 +109,13 @@ module _ (h : Channel) where
     where
       by : (a b : Bool) → is_wrapper v ≡ b
           → Does h (calls.message held deliver reply sender ours v d n)
-          (cond a (cond b (wrapper_on h v d) (join_on h owner ours (join_of d) n)) (stays h (refused 1)))
-      by false b e = answers _ (refuses 1) refl
+          (cond a (cond b (wrapper_on h v d) (join_on h owner ours (join_of d) n)) (stays h (refused refusal.WrongSize)))
+      by false b e = answers _ (refuses refusal.WrongSize) refl
       by true true e = wrapper_does v d e
       by true false e = join_does owner ours (join_of d) n _ refl
   does owner (calls.elapsed cells ms) = passes ms
   does owner (calls.leave reply sender named reason) = by (leave_sizes table_size reply (length sender))
     where
-      by : (a : Bool) → Does h (calls.leave reply sender named reason) (cond a (leave_on h reason) (stays h (refused 1)))
+      by : (a : Bool) → Does h (calls.leave reply sender named reason) (cond a (leave_on h reason) (stays h (refused refusal.WrongSize)))
       by true = leave_does reason
-      by false = answers _ (refuses 1) refl
+      by false = answers _ (refuses refusal.WrongSize) refl

@@ -1,7 +1,7 @@
 -- What it is for a record to have a channel, and for a call to name it: the record is one of the eight, used and the one that the search finds
 -- (`Has`); and who names its owner and its channel calls it (`sender_is`, `names_is`, `meets`). Assumes of the table that it is right (`Right`).
 use Prim.Native.Nat.{ℕ, ◌<◌, ◌≤◌}
-use mathlib.Core.Bool.{Bool, true, false, ◌&&◌, ◌||◌, and-eq-true_iff, false≢true}
+use mathlib.Core.Bool.{Bool, true, false, ◌&&◌, ◌||◌, false≢true}
 use mathlib.Core.List.{List}
 use mathlib.Core.Logic.{◌⊎◌, inl, inr}
 use mathlib.Core.Path.{◌≡◌, refl, sym, ◌∙◌}
@@ -9,24 +9,19 @@ use native.Mathlib.Omega.{arith}
 use lib.Dec.{ltb, eqb}
 use lib.ListN.{length}
 use borrow.Author.Tests.{ltb-true, ltb-false, eqb-true, eq-eqb}
+use Rattle.std.specs.Prelude.{Some}
 use Rattle.message.specs.Lengths.{join}
 use Rattle.message.specs.Layouts.{cid_at, wrapper_of, join_of}
 use Rattle.message.specs.Reading.{readable}
 use Rattle.message.specs.declared.Cid.{Cid}
+use Rattle.record.proofs.Choices.{both, and}
 use Rattle.table.specs.Table.{named, found, record_at}
-use Rattle.table.specs.declared.Found.TheVariants as search
 use Rattle.table.proofs.Finding.{found_at_lem, none_past}
 use Rattle.table.proofs.Tables.{TableFormed, formed, found_formed, named_is, same_is, is_same}
 use Rattle.member.specs.Sizes.{message_sizes, leave_sizes, table_size, held_size, cid_size}
 use Rattle.demands.specs.Calls.{State, Right}
 use Rattle.demands.specs.Refusals.{is_wrapper}
 use Rattle.demands.specs.Channel.{names, is_cid}
-
-both : (a b : Bool) → a && b ≡ true → (a ≡ true) × (b ≡ true)
-both a b = (and-eq-true_iff a b).0
-
-and : (a b : Bool) → a ≡ true → b ≡ true → a && b ≡ true
-and a b e f = (and-eq-true_iff a b).1 (e, f)
 
 -- ---- names
 
@@ -89,7 +84,7 @@ module _ (i : ℕ) (owner : Cid) (channel : ℕ) (s : State) (right : Right s) (
     pub used : (record_at s.table i).used ≡ true
     pub formed : TableFormed s.table
     pub four : length (record_at s.table i).places ≡ 4
-    pub finds : found 0 owner channel s.table ≡ search.At i
+    pub finds : found owner channel s.table ≡ Some i
 
   pub it_has : Has
   it_has =
@@ -111,7 +106,7 @@ module _ (i : ℕ) (owner : Cid) (channel : ℕ) (s : State) (right : Right s) (
       below = by (ltb i 8) refl
 
   -- whoever meets record i names this owner and this channel
-  pub meets : (o : Cid) (c : ℕ) → found 0 o c s.table ≡ search.At i → (o ≡ owner) × (c ≡ channel)
+  pub meets : (o : Cid) (c : ℕ) → found o c s.table ≡ Some i → (o ≡ owner) × (c ≡ channel)
   meets o c e =
       let w = named_is o c (record_at s.table i) (found_at_lem o c s.table i e).1 in
       let m = named_is owner channel (record_at s.table i) has in

@@ -1,6 +1,6 @@
 -- The octets of a record's four places taken by themselves, its slab: a wrapper's step does to the slab what it does to the places within the
 -- held octets (`slab_after`, `slab_delivered`), and a step of another record leaves it (`slab_other`). Assumes nothing.
-use Prim.Native.Nat.{ℕ, zero, suc, ◌+◌, ◌-◌, ◌<◌, ◌≤◌}
+use Prim.Native.Nat.{ℕ, suc, ◌+◌, ◌-◌, ◌<◌, ◌≤◌}
 use mathlib.Core.Bool.{Bool, true, false}
 use mathlib.Core.List.{List, [], ◌∷◌, ◌++◌}
 use mathlib.Core.Logic.{◌≢◌, ◌⊎◌, inl, inr}
@@ -8,8 +8,9 @@ use mathlib.Core.Path.{◌≡◌, refl, sym, ap, ◌∙◌}
 use native.Mathlib.Omega.{arith}
 use lib.Dec.{ltb}
 use lib.ListN.{length, get_or, set, take, drop}
-use lib.Seq.{take-nil, take-take, drop-drop, take-set-lt, drop-set-add, sets, sets-eq}
+use lib.Seq.{take-take, drop-drop, take-set-lt, drop-set-add, sets, sets-eq}
 use borrow.Author.Tests.{ltb-true, ltb-false}
+use Rattle.std.proofs.lemmas.List.{drop-take}
 use Rattle.octets.specs.Octets.{part, splice}
 use Rattle.octets.proofs.Numbers.{length_part}
 use Rattle.record.specs.WellFormed.{most_contents}
@@ -27,17 +28,11 @@ use Rattle.demands.specs.Channel.{places_size, slab}
 
 -- ---- parts of parts, and writes into parts
 
-drop_take : (a k m : ℕ) (s : List ℕ) → m ≡ a + k → drop a (take m s) ≡ take k (drop a s)
-drop_take zero k m s e =
-    let same : m ≡ k = omega arith in
-    rw same
-drop_take (suc a) k zero s e = absurd (omega arith)
-drop_take (suc a) k (suc m) [] e = sym (take-nil k)
-drop_take (suc a) k (suc m) (x ∷ s) e = drop_take a k m s (omega arith)
-
 part_part : (s : List ℕ) (at m from n : ℕ) → from + n ≤ m → part (part s at m) from n ≡ part s (at + from) n
 part_part s at m from n h =
-    ap (take n) (drop_take from (m - from) m (drop at s) (omega arith))
+    let ends : m ≡ from + (m - from) = omega arith in
+    ap (λ (k : ℕ). take n (drop from (take k (drop at s)))) ends
+    ∙ ap (take n) (drop-take from (m - from) (drop at s))
     ∙ take-take n (m - from) (drop from (drop at s)) (omega arith)
     ∙ ap (take n) (drop-drop from at s)
 

@@ -6,6 +6,7 @@ use mathlib.Core.List.{List, [], ◌∷◌, map}
 use mathlib.Core.Path.{◌≡◌, ◌∙◌}
 use lib.ListN.{length, set, length-set, length-map}
 use lib.Signed.{lt_z}
+use Rattle.std.specs.Prelude.{Option, Some, None}
 use Rattle.counter.specs.Distance.{turn, distance}
 use Rattle.counter.specs.declared.Total.{Total}
 use Rattle.counter.specs.declared.Reliable.{Reliable}
@@ -27,14 +28,11 @@ use Rattle.joining.specs.Joining.{new_record}
 use Rattle.wrapper.specs.Judge.{farther, heard}
 use Rattle.wrapper.specs.Hold.{next_one, place_for, held_as, put_in, placed}
 use Rattle.wrapper.specs.Release.{without, release_by, release_at, released}
-use Rattle.wrapper.specs.Settle.{lost as isLost, gapped, asked, spared, acknowledged, settled}
+use Rattle.wrapper.specs.Settle.{lost as isLost, gapped, asked, spared, acknowledged, settled_by, settled}
 use Rattle.wrapper.specs.Taken.{taken}
 use Rattle.wrapper.specs.declared.Arrived.{Arrived}
-use Rattle.wrapper.specs.declared.Gapped.{Gapped}
 use Rattle.wrapper.specs.declared.Placed.{Placed}
 use Rattle.wrapper.specs.declared.Released.{Released}
-use Rattle.wrapper.specs.declared.Search.{Search}
-use Rattle.wrapper.specs.declared.Search.TheVariants as search
 use Rattle.wrapper.specs.declared.Settled.{Settled}
 use Rattle.wrapper.proofs.Releasing.{along, release_is, passing, held_at}
 use Rattle.demands.specs.Calls.{Sound, Both}
@@ -113,9 +111,9 @@ heard_sound {r} n s h =
     s.known)
 
 module _ {r : Record} (w : Arrived) (s : Sound r) (b : Both w.total w.reliable) where
-  put_sound : (f : Search) → Sound (put_in r w f).after
-  put_sound (search.At i) = with_place s i (held_as w) b
-  put_sound search.Nowhere = s
+  put_sound : (f : Option ℕ) → Sound (put_in r w f).after
+  put_sound (Some i) = with_place s i (held_as w) b
+  put_sound None = s
 
   placed_sound : Sound (placed r w).after
   unfolding placed
@@ -138,22 +136,19 @@ released_sound : {r : Record} → Sound r → Sound (released r).after
 unfolding released
 released_sound s = along (λ t. Sound t.after) (λ t i e. release_sound t i) 4 _ s
 
-gapped_sound : {r : Record} (oldest : Reliable) → Sound r → Sound (gapped r oldest).after
-unfolding gapped
-gapped_sound {r} oldest s =
-    either (λ (g : Gapped). Sound g.after) (closed r) _ _ (aside s _ _ _ _)
-    (either (λ (g : Gapped). Sound g.after) (isLost r oldest) _ _ (aside s _ _ _ _) (aside s _ _ _ _))
-
 acknowledged_sound : {r : Record} (w : Arrived) → Sound r → Sound (acknowledged r w).after
 unfolding acknowledged
 acknowledged_sound {r} w s =
     either (λ (a : Settled). Sound a.after) (asked r w && not (spared r w)) _ _ (with_acked_lem s r.reliable s.reliable) s
 
 settled_sound : {r : Record} (w : Arrived) → Sound r → Sound (settled r w).after
-unfolding settled
+unfolding settled gapped
 settled_sound {r} w s =
-    let g = gapped_sound w.oldest s in
-    either (λ (a : Settled). Sound a.after) (gapped r w.oldest).lost _ _ g (acknowledged_sound w g)
+    either Settles (closed r) _ _ (acknowledged_sound w (aside s _ _ _ _))
+    (either Settles (isLost r w.oldest) _ _ (aside s _ _ _ _) (acknowledged_sound w (aside s _ _ _ _)))
+  where
+    Settles : Option Record → Type 0
+    Settles g = Sound (settled_by g r w).after
 
 pub taken_sound : (r : Record) (w : Arrived) → Sound r → Both w.total w.reliable → Sound (taken r w).after
 unfolding taken
