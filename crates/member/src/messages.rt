@@ -67,15 +67,13 @@ fn take_join(
     let free = table::find_free(table);
     let decision = joining::decide(j, existing_at(table, known), reciprocal, free.is_some());
     let after = table_after(table, sender, j, reciprocal, decision, free);
-    let deliveries = carry::no_deliveries().each;
     Messaged {
         table: after,
         given: Given::Joined {
             at: joined_at(decision, known, free),
             decision,
         },
-        deliveries,
-        count: 0,
+        deliveries: carry::no_deliveries(),
         reply: sending::put_join_reply(reply, sender, j, reciprocal, decision),
     }
 }
@@ -96,10 +94,9 @@ fn carried(
     ensures { MessageEndsAs (plan_outcome table held.old at w contents.now plan) deliver.old reply.old
         (record { answer = Ok result; held = held.new; deliver = deliver.new; reply = reply.new }) }
 {
-    let all = carry::carry_out(held, deliver, at, w, plan, contents);
+    let deliveries = carry::carry_out(held, deliver, at, w, plan, contents);
     let mut after = table;
     after[at] = plan.after;
-    let deliveries = all.each;
     Messaged {
         table: after,
         given: Given::Wrapped {
@@ -109,7 +106,6 @@ fn carried(
             reply: plan.reply,
         },
         deliveries,
-        count: all.count,
         reply: sending::put_reply(reply, plan.after.terms, plan.reply),
     }
 }
