@@ -24,8 +24,8 @@ fn put_message(room: &mut [u8], m: Message) -> usize
     writing::write_message(m, b"", room).unwrap()
 }
 
-// A Leaving. Here and in `put_event` the room is a slice and no array: a cell is a part of the octets of all cells, and of a part that is taken as an array
-// the proof of what is written did not close.
+// A Leaving. Its reason is a number, as in `departure` and `departing`: a leave call may ask for any octet, and refusal 10 is decided before.
+// Here and in `put_event` the room is a slice: of a part of the octets of all cells, taken as an array, the proof of what is written did not close.
 pub fn put_leaving(room: &mut [u8], terms: Terms, reliable: Reliable, reason: u8) -> usize
     requires { 64 ≤ length room.old }
     ensures { Put (sent_of (departure terms reliable reason)) result room.old room.new }
@@ -74,6 +74,7 @@ pub fn put_event(room: &mut [u8], terms: Terms, event: Event) -> usize
 }
 
 // The reply to a Join.
+// `owner`, `j` and `reciprocal` stay parameters: two of the three decisions leave `reciprocal` aside, so a struct of them would be taken apart at once.
 #[tactic(auto, unfolding(crate::specs::Sent::join_reply_of))]
 pub fn put_join_reply(
     room: &mut [u8; ROOM],

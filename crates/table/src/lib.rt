@@ -1,4 +1,5 @@
 // Eight records by value: which one has an owner and channel, which one is free, and whether the whole table is well formed.
+// The table is a parameter `[Record; 8]` everywhere, as 01 has it ("first eight records by value"): of a struct, each contract would only say `table.0`.
 #![tactic(auto)]
 
 ghost use Rattle.std.specs.Prelude.{◌≡◌, ◌<◌, IfSome};
@@ -52,6 +53,7 @@ pub fn is_named(r: Record, owner: Cid, channel: u16) -> bool
 }
 
 // The record of this owner and channel.
+// The two stay parameters: the callers have them of a message or of a leave call, apart, and would make the pair for this search alone.
 pub fn find(table: [Record; 8], owner: Cid, channel: u16) -> Option<usize>
     ensures first { result ≡ found owner channel table }
     ensures within { IfSome result (λ i. i < 8) }
