@@ -10,6 +10,7 @@ use refusal::Refusal;
 use wrapper::Arrived;
 
 // A wrapper's own fields; the rest of its data is its contents.
+// `message` has the number in the rows of the two vectors, as their least length; to search the rows for what is fixed would be no plainer.
 pub const FIELDS: usize = 20;
 
 // What a message asks of the table: a Join, or a step of the record `at` by a wrapper.
@@ -19,6 +20,7 @@ pub enum Asked {
     Wrapper { at: usize, arrived: Arrived },
 }
 
+// Field by field: an `Arrived` that held the `Wrapper` whole would bring a channel into the step of one record, which has none to ask.
 fn arrived_of(reliably: bool, w: Wrapper, len: u16) -> Arrived
     ensures { result ≡ arrived_of reliably w len }
 {
@@ -67,6 +69,7 @@ fn join_asks(ours: Cid, j: Join) -> Result<Asked, Refusal>
 }
 
 // Refusals 4 to 7. An ACK is not a base message.
+// `sender` and `ours` go to different calls, `vector` and `body` only to the reader: a struct of either pair would be made to be taken apart at once.
 #[tactic(auto, using(crate::proofs::Wrappers::lengths), unfolding(crate::specs::Asking::asked_of))]
 pub fn asks(
     table: [Record; 8],

@@ -128,7 +128,7 @@ given_two held l = rw (l, (sample.joined_one).right.formed)
 answers_two : (a : Messaged) × (messaged (brings (sample.held_of 0)) ≡ Ok a)
 answers_two = (_, ap (messaged_as (brings (sample.held_of 0))) (given_two (sample.held_of 0) (sample.held_size_lem 0)))
 
-counts_two : (answers_two.0).count ≡ 2
+counts_two : (answers_two.0).deliveries.count ≡ 2
 counts_two =
     deliveries_counted (sample.state_of sample.free 0) (sample.joined_one).right deliver_size reply_size (sample.cid 1 2) (replicate 16 0) reliable_wrapper
     (sample.wrapper_data 11 (4 ∷ 5 ∷ 6 ∷ [])) 0 answers_two.0 answers_two.1

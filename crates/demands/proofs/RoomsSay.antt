@@ -120,28 +120,30 @@ listed_at a (d ∷ ds) z none (suc k) five few l =
 
 -- the answer to a call that is accepted has what is listed
 answer_is : (out : Outcome) (a : Messaged) → messaged out ≡ Ok a
-    → (a.count ≡ (listed no_deliveries out.delivered).count) × (a.deliveries ≡ (listed no_deliveries out.delivered).each)
+    → a.deliveries ≡ listed no_deliveries out.delivered
 answer_is out a e = by out.given e
   where
     by : (given : Result Given Refusal) → messaged_as out given ≡ Ok a
-        → (a.count ≡ (listed no_deliveries out.delivered).count) × (a.deliveries ≡ (listed no_deliveries out.delivered).each)
-    by (Ok g) e = (cc, cc)
+        → a.deliveries ≡ listed no_deliveries out.delivered
+    by (Ok g) e = cc
     by (Err why) e = never (cc)
 
 module _ (s : State) (right : Right s) (deliver reply : ℕ) (sender ours : List ℕ) (v : ℕ) (d : List ℕ) (n : ℕ) where
   module _ (a : Messaged) (answered : messaged (message_outcome s.table s.held deliver reply sender ours v d n) ≡ Ok a) where
     -- the answer of a call that is accepted counts the deliveries that the call made
-    pub deliveries_counted : a.count ≡ length (message_outcome s.table s.held deliver reply sender ours v d n).delivered
-    deliveries_counted = (answer_is (message_outcome s.table s.held deliver reply sender ours v d n) a answered).0 ∙ listed_count no_deliveries _ ∙ zero-add _
+    pub deliveries_counted : a.deliveries.count ≡ length (message_outcome s.table s.held deliver reply sender ours v d n).delivered
+    deliveries_counted =
+        ap (λ (m : Deliveries). m.count) (answer_is (message_outcome s.table s.held deliver reply sender ours v d n) a answered)
+        ∙ listed_count no_deliveries _ ∙ zero-add _
 
     -- and lists each, with its kind, numbers and length, in its turn
     pub deliveries_listed : (z : Delivery) (none : Delivered) (k : ℕ)
         → k < length (message_outcome s.table s.held deliver reply sender ours v d n).delivered
-        → get_or a.deliveries k z ≡ (get_or (message_outcome s.table s.held deliver reply sender ours v d n).delivered k none).delivery
+        → get_or a.deliveries.each k z ≡ (get_or (message_outcome s.table s.held deliver reply sender ours v d n).delivered k none).delivery
     deliveries_listed z none k l =
         let out = message_outcome s.table s.held deliver reply sender ours v d n in
         let stand = message_stands_lem s right deliver reply sender ours v d n in
-        ap (λ ds. get_or ds k z) (answer_is out a answered).1
+        ap (λ (m : Deliveries). get_or m.each k z) (answer_is out a answered)
         ∙ ap (λ m. get_or (listed no_deliveries out.delivered).each m z) (sym (zero-add k))
         ∙ listed_at no_deliveries out.delivered z none k refl (omega (arith, stand.few)) l
 

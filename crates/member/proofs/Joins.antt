@@ -27,7 +27,7 @@ pub join_done_lem : (ts : List Record) (s : Cid) (j : Join) (n : ℕ) (known fre
     → known ≡ found s j.channel ts → free ≡ lowest_free ts → x ≡ existing_at ts known → b ≡ is_some free → d ≡ decided j x n b
     → after ≡ table_after ts s j n d free → (k ≡ length (join_reply_of s j n d)) × (last ≡ splice room 0 (join_reply_of s j n d))
     → none ≡ no_deliveries → at ≡ joined_at d known free
-    → (◌≡◌ {A = Result Messaged Refusal} (Ok (record { table = after; given = given.Joined at d; deliveries = none.each; count = 0; reply = k }))
+    → (◌≡◌ {A = Result Messaged Refusal} (Ok (record { table = after; given = given.Joined at d; deliveries = none; reply = k }))
     (messaged (join_outcome ts [] s j n)))
     × (last ≡ reply_after (join_outcome ts [] s j n) room)
 unfolding join_outcome listed

@@ -35,7 +35,7 @@ use Rattle.member.specs.declared.Messaged.{Messaged}
 pub plan_done : (ts : List Record) (held : List ℕ) (i : ℕ) (w : Arrived) (c : List ℕ) (p : Plan) (all : Deliveries) (t : List Record) (k : ℕ)
     → all ≡ listed no_deliveries (delivered_by held i w c p) → t ≡ set ts i p.after → k ≡ length (reply_of p.after.terms p.reply)
     → ◌≡◌ {A = Result Messaged Refusal}
-    (Ok (record { table = t; given = given.Wrapped i p.fate p.thrown p.reply; deliveries = all.each; count = all.count; reply = k }))
+    (Ok (record { table = t; given = given.Wrapped i p.fate p.thrown p.reply; deliveries = all; reply = k }))
     (messaged (plan_outcome ts held i w c p))
 unfolding plan_outcome
 plan_done ts held i w c p all t k e f g = rw (e, f, g)

@@ -120,8 +120,7 @@ messaged_as out (Ok done) =
     Ok (record {
       table = out.table;
       given = done;
-      deliveries = (listed no_deliveries out.delivered).each;
-      count = (listed no_deliveries out.delivered).count;
+      deliveries = listed no_deliveries out.delivered;
       reply = length out.reply;
     })
 messaged_as out (Err why) = Err why

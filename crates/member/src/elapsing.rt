@@ -11,7 +11,8 @@ use crate::{CELLS, Cell, Passed};
 use gap::Event;
 use record::Record;
 
-const CELL: usize = 64;
+// The octets of a cell.
+const CELL: usize = sending::ROOM;
 
 const NO_CELL: Cell = Cell {
     event: Event::Nothing,
@@ -19,6 +20,7 @@ const NO_CELL: Cell = Cell {
 };
 
 // What `ms` milliseconds do to record i, and what it sends in its cell.
+// `ms ≤ longest`, here and in `pass_all`, is no type of its own: refusal 3 says it once, and `passing` and `elapsed_of` would take the type off again.
 fn pass_one(before: Passed, cells: &mut [u8; CELLS], i: usize, ms: u32) -> Passed
     requires { (i < 8) × (well_formed (record_at before.table i) ≡ true) × (ms ≤ longest) }
     ensures { (result.table ≡ set before.table i (elapsed_of (record_at before.table i) ms).after)
@@ -46,6 +48,7 @@ pub fn pass_all(table: [Record; 8], cells: &mut [u8; CELLS], ms: u32) -> Passed
         table,
         cells: [NO_CELL; 8],
     };
+    // By index: i picks the record, its answer and its octets; a zip of `iter_mut` over each would take `after` apart and put it together, no plainer.
     for i in 0..8 {
         after = pass_one(after, cells, i, ms);
     }

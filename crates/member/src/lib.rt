@@ -9,7 +9,7 @@ ghost use Rattle.member.specs.Messages.{MessageAllows};
 ghost use Rattle.member.specs.Elapsing.{ElapsedAllows};
 ghost use Rattle.member.specs.Leaving.{LeaveAllows};
 
-use carry::Delivery;
+use carry::Deliveries;
 pub use carry::{DELIVER, HELD};
 use gap::Event;
 use joining::Decision;
@@ -18,7 +18,7 @@ use refusal::Refusal;
 use wrapper::{Fate, Reply};
 
 // The sizes of what is lent (01, "Room"), beside `carry`'s.
-pub const REPLY: usize = 64;
+pub const REPLY: usize = sending::ROOM;
 
 pub const CELLS: usize = 512;
 
@@ -43,14 +43,12 @@ pub enum Given {
     },
 }
 
-// The answer of a message call. The first `count` of `deliveries` are what was delivered, in order: an array with its count beside it, since the library
-// has no heap. `reply` octets stand in the reply room.
+// The answer of a message call. `reply` octets stand in the reply room.
 #[derive(Clone, Copy)]
 pub struct Messaged {
     pub table: [Record; 8],
     pub given: Given,
-    pub deliveries: [Delivery; 5],
-    pub count: usize,
+    pub deliveries: Deliveries,
     pub reply: usize,
 }
 

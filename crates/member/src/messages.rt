@@ -16,6 +16,7 @@ use refusal::Refusal;
 use wrapper::{Arrived, Plan};
 
 // What the table has for a Join.
+// That an index is below 8 is a premise in this crate and no type: callers have it of a search, `pass_one` of its loop, and the definitions take numbers.
 fn existing_at(table: [Record; 8], at: Option<usize>) -> Option<Existing>
     requires { IfSome at (λ i. i < 8) }
     ensures { result ≡ existing_at table at }
@@ -67,21 +68,20 @@ fn take_join(
     let free = table::find_free(table);
     let decision = joining::decide(j, existing_at(table, known), reciprocal, free.is_some());
     let after = table_after(table, sender, j, reciprocal, decision, free);
-    let deliveries = carry::no_deliveries().each;
     Messaged {
         table: after,
         given: Given::Joined {
             at: joined_at(decision, known, free),
             decision,
         },
-        deliveries,
-        count: 0,
+        deliveries: carry::no_deliveries(),
         reply: sending::put_join_reply(reply, sender, j, reciprocal, decision),
     }
 }
 
-// The plan of the record `at`, carried out. The three lent pieces stay parameters: their sizes are their types', and a struct that holds three `&mut` would
-// owe a clause for each that it keeps its reference.
+// The plan of the record `at`, carried out.
+// The three lent pieces stay parameters, here and up to `message`: a struct that holds three `&mut` would owe a clause for each that it keeps its reference.
+// `length contents ≤ most_contents`, here and in `take_wrapper`, stays a premise: the caller has it of refusal 7, and a type of it would be taken off below.
 fn carried(
     table: [Record; 8],
     held: &mut [u8; HELD],
@@ -96,10 +96,9 @@ fn carried(
     ensures { MessageEndsAs (plan_outcome table held.old at w contents.now plan) deliver.old reply.old
         (record { answer = Ok result; held = held.new; deliver = deliver.new; reply = reply.new }) }
 {
-    let all = carry::carry_out(held, deliver, at, w, plan, contents);
+    let deliveries = carry::carry_out(held, deliver, at, w, plan, contents);
     let mut after = table;
     after[at] = plan.after;
-    let deliveries = all.each;
     Messaged {
         table: after,
         given: Given::Wrapped {
@@ -109,12 +108,12 @@ fn carried(
             reply: plan.reply,
         },
         deliveries,
-        count: all.count,
         reply: sending::put_reply(reply, plan.after.terms, plan.reply),
     }
 }
 
 // The step of the record `at` by a wrapper: refused as 8 or 9, or carried out.
+// `well_formed`, here and in `pass_one`, is no invariant of Record: refusal 2 is given for a table whose records are not well formed.
 fn take_wrapper(
     table: [Record; 8],
     held: &mut [u8; HELD],

@@ -13,6 +13,7 @@ use Rattle.counter.specs.declared.Reliable.{Reliable}
 use Rattle.counter.proofs.Distances.{at_least, test_not_farther}
 use Rattle.record.specs.Profile.{nak_timeout, max_retries}
 use Rattle.record.specs.Legal.{legal_names, legal_parameters}
+use Rattle.record.specs.Lowest.{all_apart}
 use Rattle.record.specs.Places.{place_at}
 use Rattle.record.specs.WellFormed.{most_contents, held_right, apart, apart_from, held_apart, held_all_right, closed, gap_right, terms_right, well_formed}
 use Rattle.record.specs.declared.Gap.{Gap}
@@ -115,6 +116,12 @@ module _ (r k : Reliable) (known : ahead r.0 k.0 < 2147483648) where
 
 -- ---- held numbers differ
 
+-- each place is apart from each later one, in the words of the search that decides it
+pub held_apart_is : (ps : List Place) → all_apart apart ps ≡ held_apart ps
+unfolding all_apart held_apart apart_from
+held_apart_is [] = refl
+held_apart_is (p ∷ ps) = rw (held_apart_is ps)
+
 apart_is : (p q : Place) → apart p q ≡ true → p.used ≡ true → q.used ≡ true → p.reliable.0 ≢ q.reliable.0
 unfolding apart
 apart_is p q w u v e = no p.used q.used _ u v (eq-eqb _ _ e) w
@@ -154,13 +161,13 @@ apart_all (p ∷ ps) w zero (suc j) u v e = absurd (apart_from_lem p ps (both _ 
 apart_all (p ∷ ps) w (suc i) zero u v e = absurd (apart_from_lem p ps (both _ _ w).0 v i u (sym e))
 apart_all (p ∷ ps) w (suc i) (suc j) u v e = ap suc (apart_all ps (both (apart_from p ps) _ w).1 i j u v e)
 
-all_apart : (ps : List Place) → Apart ps → held_apart ps ≡ true
+are_apart : (ps : List Place) → Apart ps → held_apart ps ≡ true
 unfolding held_apart
-all_apart [] f = refl
-all_apart (p ∷ ps) f =
+are_apart [] f = refl
+are_apart (p ∷ ps) f =
     and _ _
     (from_apart p ps (λ u i v e. let z : 0 ≡ suc i = f 0 (suc i) u v e in omega arith))
-    (all_apart ps (λ i j u v e. let s : suc i ≡ suc j = f (suc i) (suc j) u v e in omega arith))
+    (are_apart ps (λ i j u v e. let s : suc i ≡ suc j = f (suc i) (suc j) u v e in omega arith))
 
 -- ---- the phase
 
@@ -227,7 +234,7 @@ well_formed_lem {r} f =
     (and _ _ (and _ _ f.legal_names f.legal_parameters) (zero_not _ f.reciprocal))
     ((at_least 0 r.reliable.0 r.known.0).1 (omega arith, f.known)))
     (all_held r.reliable r.known f.known r.places f.held))
-    (all_apart r.places f.apart))
+    (are_apart r.places f.apart))
     (is_phase _ _ _ r.gap f.gap))
     (lt-ltb _ _ f.idle))
 

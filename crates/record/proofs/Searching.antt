@@ -1,5 +1,5 @@
 -- The search for the lowest element that passes a test (`position`): what the loop of `lowest` knows at each turn, and which elements pass where none is
--- found. Assumes nothing.
+-- found; and what the loop of `all_apart` knows. Assumes nothing.
 use Prim.Native.Nat.{ℕ, ◌+◌, ◌<◌, ◌≤◌}
 use mathlib.Core.Bool.{Bool, true, false, cond}
 use mathlib.Core.List.{List, [], ◌∷◌}
@@ -11,9 +11,10 @@ use lib.ListN.{length, get_or, drop, drop_of_length-le}
 use lib.Seq.{drop-cons}
 use borrow.Author.Tests.{ltb-false, le-ltb}
 use Rattle.std.specs.Prelude.{position, Some, None}
-use Rattle.std.specs.List.{position_from, position_or_len}
+use Rattle.std.specs.List.{position_from, position_or_len, list_all}
 use Rattle.std.proofs.lemmas.Iterator.Adapters.{position_from-zero}
 use Rattle.std.proofs.lemmas.List.Sums.{fails_before_first, position_or_len_is}
+use Rattle.record.specs.Lowest.{all_apart}
 use Rattle.record.proofs.Choices.{never}
 
 module _ {A : Type 0} (test : A → Bool) (xs : List A) where
@@ -59,3 +60,16 @@ none_found test (x ∷ xs) f =
     let all = position_or_len_is test (x ∷ xs) (length (x ∷ xs)) x (omega arith) (λ k l. f k x l) (λ l. absurd (omega arith)) in
     let same : length (x ∷ xs) ≤ length (x ∷ xs) = omega arith in
     rw (all, le-ltb _ _ same)
+
+-- ---- each element and each later one
+
+-- x is the first of the elements that decide, and `answer` whether it is apart from each later one
+module _ {A : Type 0} (test : A → A → Bool) (x : A) (later left all : List A) (decide : all_apart test all ≡ all_apart test left) (first : left ≡ x ∷ later)
+    (answer : Bool) (says : answer ≡ list_all (test x) later) where
+  pub apart_not : answer ≡ false → false ≡ all_apart test all
+  unfolding all_apart
+  apart_not p = rw (decide, first, ← says, p)
+
+  pub apart_on : answer ≡ true → all_apart test all ≡ all_apart test later
+  unfolding all_apart
+  apart_on p = rw (decide, first, ← says, p)

@@ -8,12 +8,12 @@ ghost use Rattle.std.specs.Prelude.{◌≡◌};
 ghost use Rattle.record.specs.Profile.{nak_timeout, max_retries};
 ghost use Rattle.record.specs.Legal.{legal_names, legal_parameters};
 ghost use Rattle.record.specs.With.{freed, with_gap, free_place};
-ghost use Rattle.record.specs.WellFormed.{closed, held_right, apart, apart_from, held_apart, held_all_right, gap_right, terms_right, well_formed};
+ghost use Rattle.record.specs.WellFormed.{closed, held_right, apart, held_apart, held_all_right, gap_right, terms_right, well_formed};
 
 use counter::{Counter, Reliable, Total};
 use message::{Cid, MOST_CONTENTS};
 pub use reasons::{NoReason, Reason, is_leaving_reason};
-pub use searches::lowest;
+pub use searches::{all_apart, lowest};
 
 // The phase of a gap, with its time left in milliseconds and the number of NAKs sent.
 #[derive(Clone, Copy, Debug, PartialEq, Eq)]
@@ -139,14 +139,6 @@ impl Place {
         !(self.used && other.used && self.reliable == other.reliable)
     }
 
-    // Nor does any of the others.
-    #[tactic(auto, unfolding(crate::specs::WellFormed::apart_from))]
-    fn is_apart_from(self, others: &[Place]) -> bool
-        ensures { result ≡ apart_from self others.now }
-    {
-        others.iter().all(|other| self.is_apart(*other))
-    }
-
     // The place marked free.
     pub fn freed(self) -> Place
         ensures { result ≡ free_place self }
@@ -167,18 +159,10 @@ fn held_all_right(reliable: Reliable, known: Reliable, places: &[Place]) -> bool
 }
 
 // Held numbers differ.
-#[tactic(auto, unfolding(crate::specs::WellFormed::held_apart))]
 fn held_apart(places: &[Place]) -> bool
     ensures { result ≡ held_apart places.now }
 {
-    let mut rest = places;
-    while let Some((place, others)) = rest.split_first() {
-        if !place.is_apart_from(others) {
-            return false;
-        }
-        rest = others;
-    }
-    true
+    all_apart(places, |p, q| p.is_apart(*q))
 }
 
 impl Terms {

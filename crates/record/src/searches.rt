@@ -1,6 +1,6 @@
-// The search over a channel's places and over a table's records: the lowest that passes a test.
+// The searches over a channel's places and over a table's records: the lowest that passes a test, and whether any two fail one.
 ghost use Rattle.std.specs.Prelude.{◌≡◌, ◌<◌, Bool, length, position, IfSome};
-ghost use Rattle.record.specs.Lowest.{Tests};
+ghost use Rattle.record.specs.Lowest.{Tests, TestsPairs, all_apart};
 
 // The index of the first of `xs` that passes, or none. It leaves the walk at the first one.
 pub fn lowest<T, F: Fn(&T) -> bool>(xs: &[T], passes: F) -> Option<usize>
@@ -21,4 +21,22 @@ pub fn lowest<T, F: Fn(&T) -> bool>(xs: &[T], passes: F) -> Option<usize>
         i += 1;
     };
     Some(at)
+}
+
+#[tactic(auto, unfolding(crate::specs::Lowest::all_apart))]
+// Whether each of `xs` is apart from all later ones. It leaves the walk at the first pair that is not.
+pub fn all_apart<T, F: Fn(&T, &T) -> bool>(xs: &[T], apart: F) -> bool
+    requires { F.IsAlwaysCallable apart }
+
+    // Whatever test of two the closure computes, the answer is whether that test passes of each element and each later one.
+    ensures { (test : T → T → Bool) → TestsPairs F.Fn apart test → result ≡ all_apart test xs.now }
+{
+    let mut rest = xs;
+    while let Some((x, later)) = rest.split_first() {
+        if !later.iter().all(|y| apart(x, y)) {
+            return false;
+        }
+        rest = later;
+    }
+    true
 }

@@ -13,6 +13,9 @@ use message::{Cid, Join, Message};
 use record::Terms;
 use wrapper::Reply;
 
+// The octets of a reply room, and of a record's cell.
+pub const ROOM: usize = 64;
+
 // Writes a message that has a form and fits at the front of a room, and answers how many octets it takes.
 fn put_message(room: &mut [u8], m: Message) -> usize
     requires { (has_form m ≡ true) × (length (sent_of m) ≤ length room.old) }
@@ -21,8 +24,8 @@ fn put_message(room: &mut [u8], m: Message) -> usize
     writing::write_message(m, b"", room).unwrap()
 }
 
-// A Leaving. The room is a slice that is long enough, here and in what follows, and no array of 64: `put_join_reply` took any such room before, and an array
-// would ask more of its callers.
+// A Leaving. Its reason is a number, as in `departure` and `departing`: a leave call may ask for any octet, and refusal 10 is decided before.
+// The room is a slice that is long enough, here and in what follows, and no array of `ROOM`: `put_join_reply` takes any such room, and an array would ask more.
 pub fn put_leaving(room: &mut [u8], terms: Terms, reliable: Reliable, reason: u8) -> usize
     requires { 64 ≤ length room.old }
     ensures { Put (sent_of (departure terms reliable reason)) result room.old room.new }
@@ -73,6 +76,7 @@ pub fn put_event(room: &mut [u8], terms: Terms, event: Event) -> usize
 }
 
 // The reply to a Join.
+// `owner`, `j` and `reciprocal` stay parameters: two of the three decisions leave `reciprocal` aside, so a struct of them would be taken apart at once.
 #[tactic(auto, unfolding(crate::specs::Sent::join_reply_of))]
 pub fn put_join_reply(
     room: &mut [u8],

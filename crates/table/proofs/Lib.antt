@@ -1,3 +1,4 @@
 -- The laws of a table.
 pub mod Finding
+pub mod Formed
 pub mod Tables

@@ -28,10 +28,14 @@ is_free r = not r.used
 unfoldable pub lowest_free : List Record → Option ℕ
 lowest_free rs = position is_free rs
 
+-- if r is used, s has not its owner and channel
+abbrev pub apart : Record → Record → Bool
+apart r s = not (r.used && named r.terms.owner r.terms.channel s)
+
 -- if r is used, none of these records has its owner and channel
 unfoldable pub differs : Record → List Record → Bool
 differs r [] = true
-differs r (s ∷ ss) = not (r.used && named r.terms.owner r.terms.channel s) && differs r ss
+differs r (s ∷ ss) = apart r s && differs r ss
 
 -- each record is well formed by itself, and used ones differ in owner and channel
 unfoldable pub table_formed : List Record → Bool

@@ -1,8 +1,9 @@
 // Eight records by value: which one has an owner and channel, which one is free, and whether the whole table is well formed.
+// The table is a parameter `[Record; 8]` everywhere, as 01 has it ("first eight records by value"): of a struct, each contract would only say `table.0`.
 #![tactic(auto)]
 
 ghost use Rattle.std.specs.Prelude.{◌≡◌, ◌<◌, IfSome};
-ghost use Rattle.table.specs.Table.{named, found, lowest_free, differs, table_formed, free_table};
+ghost use Rattle.table.specs.Table.{named, found, lowest_free, apart, table_formed, free_table};
 
 use counter::{Reliable, Total};
 use message::Cid;
@@ -52,6 +53,7 @@ pub fn is_named(r: Record, owner: Cid, channel: u16) -> bool
 }
 
 // The record of this owner and channel.
+// The two stay parameters: the callers have them of a message or of a leave call, apart, and would make the pair for this search alone.
 pub fn find(table: [Record; 8], owner: Cid, channel: u16) -> Option<usize>
     ensures first { result ≡ found owner channel table }
     ensures within { IfSome result (λ i. i < 8) }
@@ -67,24 +69,16 @@ pub fn find_free(table: [Record; 8]) -> Option<usize>
     record::lowest(&table, |r| !r.used)
 }
 
-// Whether none of these records has the owner and channel of the used record r.
-fn is_apart(r: Record, others: &[Record]) -> bool
-    ensures { result ≡ differs r others.now }
+// Whether s has not the owner and channel of the used record r.
+fn is_apart(r: Record, s: Record) -> bool
+    ensures { result ≡ apart r s }
 {
-    others.iter().all(|s| !(r.used && is_named(*s, r.terms.owner, r.terms.channel)))
+    !(r.used && is_named(s, r.terms.owner, r.terms.channel))
 }
 
 // Whether the table is well formed: each record by itself, and used records differ in owner and channel.
-#[tactic(auto, unfolding(crate::specs::Table::table_formed))]
 pub fn is_formed(table: [Record; 8]) -> bool
     ensures { result ≡ table_formed table }
 {
-    let mut left = &table[..];
-    while let Some((r, later)) = left.split_first() {
-        if !r.is_well_formed() || !is_apart(*r, later) {
-            return false;
-        }
-        left = later;
-    }
-    true
+    table.iter().all(|r| r.is_well_formed()) && record::all_apart(&table, |r, s| is_apart(*r, *s))
 }
