@@ -4,7 +4,7 @@ ghost use Rattle.std.specs.Prelude.{◌≤◌, IfOk, vec_len};
 use crate::misread::{Misread, Wanted};
 use case_text::{Words, decimal, octets};
 use counter::{Reliable, Total};
-use message::Cid;
+use message::{Cid, cid_at};
 use std::alloc::Global;
 use std::str;
 
@@ -117,7 +117,7 @@ impl<'a> Reader<'a> {
     }
 }
 
-// An address A.B.C.D.
+// An address A.B.C.D. Its octets may have leading zeros, which std's `Ipv4Addr` refuses.
 fn host(word: &[u8]) -> Option<u32> {
     let mut parts = word.split(|b| *b == b'.');
     let mut octets = [0u8; 4];
@@ -128,17 +128,6 @@ fn host(word: &[u8]) -> Option<u32> {
         Some(_) => None,
         None => Some(u32::from_be_bytes(octets)),
     }
-}
-
-// The CID that 16 octets are.
-fn cid(octets: &[u8]) -> Option<Cid> {
-    let ([high, low], []) = octets.as_chunks::<8>() else {
-        return None;
-    };
-    Some(Cid {
-        high: u64::from_be_bytes(*high),
-        low: u64::from_be_bytes(*low),
-    })
 }
 
 impl Value for u8 {
@@ -180,9 +169,10 @@ impl Value for Reliable {
 impl Value for Cid {
     fn read(r: &mut Reader<'_>) -> Result<Cid, Misread> {
         let at = r.at();
-        octets(r.alloc, r.word())?
-            .and_then(|octets| cid(octets.as_slice()))
-            .ok_or(Misread::At(at, Wanted::Cid))
+        match octets(r.alloc, r.word())? {
+            Some(octets) if octets.len() == 16 => Ok(cid_at(&octets, 0)),
+            _ => Err(Misread::At(at, Wanted::Cid)),
+        }
     }
 }
 

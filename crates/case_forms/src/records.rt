@@ -36,7 +36,8 @@ impl Value for Gap {
     }
 }
 
-// A used record. Its places are no part of its line: they are free.
+// A used record, by the words of its line in their order: the counters stand between the names of the channel and its other terms. Its places are no
+// part of its line: they are free.
 impl Value for Record {
     fn read(r: &mut Reader<'_>) -> Result<Record, Misread> {
         let owner = r.field("owner")?;
