@@ -4,8 +4,8 @@
 use block::Found;
 use case_forms::Spelled;
 use case_forms::messages::write_message;
+use case_rooms::Ran;
 use case_rooms::lent::Room;
-use case_rooms::{Fault, Ran};
 use message::Message;
 use std::alloc::{AllocError, Global};
 
@@ -56,6 +56,6 @@ pub fn write_step(
     }
     Ok(Ran {
         said,
-        fault: room.first_changed().map(Fault::Room),
+        fault: room.fault("the room"),
     })
 }

@@ -1,10 +1,13 @@
 // The octets that a step is lent: what lies in a room before it, and which octets it has changed.
+use crate::Fault;
 use case_forms::lines::Piece;
 use case_text::Hex;
 use std::alloc::{AllocError, Global};
 
 // Every octet of a room before a step.
 const FILL: u8 = 170;
+
+// The test program takes its sizes from 01 and not from the library that it tests.
 
 // The most octets that a piece is lent with.
 const MOST: usize = 65536;
@@ -74,9 +77,10 @@ impl Room {
         Ok(())
     }
 
-    // The first octet that was changed.
-    pub fn first_changed(&self) -> Option<usize> {
-        self.octets.iter().position(|b| *b != FILL)
+    // The first octet that was changed. A report calls the room `piece`.
+    pub fn fault(&self, piece: &'static str) -> Option<Fault> {
+        let at = self.octets.iter().position(|b| *b != FILL)?;
+        Some(Fault { at, piece })
     }
 }
 
@@ -131,12 +135,16 @@ impl Held {
     }
 
     // The first of the n octets that is not what it was. They are compared whole first, which is much faster.
-    pub fn first_changed(&self, n: usize) -> Option<usize> {
+    pub fn fault(&self, n: usize) -> Option<Fault> {
         let now = self.octets.as_slice().get(..n)?;
         let before = self.before.as_slice().get(..n)?;
         if now == before {
             return None;
         }
-        now.iter().zip(before).position(|(a, b)| a != b)
+        let at = now.iter().zip(before).position(|(a, b)| a != b)?;
+        Some(Fault {
+            at,
+            piece: "the held octets",
+        })
     }
 }
