@@ -45,6 +45,7 @@ impl<'a> Reader<'a> {
         str::from_utf8(self.word()).unwrap_or("")
     }
 
+    // A value by the next words.
     pub fn value<V: Value>(&mut self) -> Result<V, Misread> {
         V::read(self)
     }
@@ -65,6 +66,7 @@ impl<'a> Reader<'a> {
         self.value()
     }
 
+    // A number up to the most.
     pub fn number(&mut self, most: u32) -> Result<u32, Misread>
         ensures { IfOk result (λ n. n ≤ most) }
     {
@@ -80,6 +82,7 @@ impl<'a> Reader<'a> {
         Ok(self.number(last)? as usize)
     }
 
+    // Octets in hex. A word with an odd number of characters is told apart.
     pub fn octets(&mut self) -> Result<Vec<u8>, Misread> {
         let at = self.at();
         let word = self.word();
@@ -90,6 +93,7 @@ impl<'a> Reader<'a> {
         }
     }
 
+    // Octets in hex, up to the most.
     pub fn octets_up_to(&mut self, most: usize) -> Result<Vec<u8>, Misread>
         ensures { IfOk result (λ octets. vec_len octets ≤ most) }
     {
@@ -102,6 +106,7 @@ impl<'a> Reader<'a> {
         }
     }
 
+    // An IPv4 address as a number.
     pub fn host(&mut self) -> Result<u32, Misread> {
         let at = self.at();
         host(self.word()).ok_or(Misread::At(at, Wanted::Host))
