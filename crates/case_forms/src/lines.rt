@@ -6,7 +6,7 @@ use record::{Place, Record};
 use std::alloc::Global;
 
 // What a call may be lent.
-#[derive(Clone, Copy, PartialEq, Eq)]
+#[derive(Clone, Copy)]
 pub enum Piece {
     Table,
     Held,

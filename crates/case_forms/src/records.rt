@@ -11,7 +11,7 @@ use std::fmt;
 
 // ---- reading
 
-// Never kept (`Setting::set_record`). A type of the line without places would have all other fields of `Record` again, and copy each.
+// Never kept: `Setting::set_record` leaves the places. A type of the line without them would have all other fields of `Record` again, and copy each.
 const FREE_PLACE: Place = Place {
     used: false,
     total: Total(0),

@@ -7,12 +7,10 @@ use std::alloc::{AllocError, Global};
 // Every octet of a room before a step.
 const FILL: u8 = 170;
 
-// The test program takes its sizes from 01 and not from the library that it tests.
-
 // The most octets that a piece is lent with.
 const MOST: usize = 65536;
 
-// A place and a delivery's cell have this many octets.
+// A place and a delivery's cell have this many octets. This size and those below are 01's, and not taken from the library that is tested.
 pub const PLACE: usize = 1454;
 
 // The cell of a record's NAK or Leaving has this many.
