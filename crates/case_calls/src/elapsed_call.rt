@@ -1,8 +1,8 @@
 // An elapsed call: what each record sends as time passes.
 use case_forms::Spelled;
+use case_rooms::Ran;
 use case_rooms::lent::{CELL, Room};
 use case_rooms::setting::Setting;
-use case_rooms::{Fault, Ran};
 use gap::Event;
 use member::Cell;
 use std::alloc::AllocError;
@@ -36,6 +36,6 @@ pub fn elapsed_step(setting: &mut Setting, ms: u32) -> Result<Ran, AllocError> {
         }
         Err(refusal) => writeln!(said, "= {}", Spelled(refusal))?,
     }
-    let fault = room.first_changed().map(Fault::Cells);
+    let fault = room.fault("the cells");
     Ok(Ran { said, fault })
 }

@@ -1,9 +1,9 @@
 // A leave call: the Leaving that it replies, and the record that it frees.
 use crate::say_reply;
 use case_forms::Spelled;
+use case_rooms::Ran;
 use case_rooms::lent::Room;
 use case_rooms::setting::Setting;
-use case_rooms::{Fault, Ran};
 use std::alloc::AllocError;
 
 pub fn leave_step(
@@ -22,6 +22,6 @@ pub fn leave_step(
         }
         Err(refusal) => writeln!(said, "= {}", Spelled(refusal))?,
     }
-    let fault = reply.first_changed().map(Fault::Reply);
+    let fault = reply.fault("the reply room");
     Ok(Ran { said, fault })
 }

@@ -2,9 +2,9 @@
 use crate::say_reply;
 use carry::Delivery;
 use case_forms::Spelled;
+use case_rooms::Ran;
 use case_rooms::lent::{Held, PLACE, Room};
 use case_rooms::setting::Setting;
-use case_rooms::{Fault, Ran};
 use member::{Given, Messaged};
 use std::alloc::AllocError;
 use wrapper::Fate;
@@ -109,9 +109,8 @@ pub fn message_step(
     }
     let fault = setting
         .held
-        .first_changed(held)
-        .map(Fault::Held)
-        .or_else(|| rooms.deliver.first_changed().map(Fault::Deliver))
-        .or_else(|| rooms.reply.first_changed().map(Fault::Reply));
+        .fault(held)
+        .or_else(|| rooms.deliver.fault("the delivery room"))
+        .or_else(|| rooms.reply.fault("the reply room"));
     Ok(Ran { said, fault })
 }

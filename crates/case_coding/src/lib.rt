@@ -4,8 +4,8 @@
 use block::Found;
 use case_forms::Spelled;
 use case_forms::messages::write_message;
+use case_rooms::Ran;
 use case_rooms::lent::Room;
-use case_rooms::{Fault, Ran};
 use message::Message;
 use std::alloc::{AllocError, Global};
 
@@ -27,11 +27,14 @@ pub fn block_step(alloc: Global, position: u32, octets: &[u8]) -> Result<Ran, Al
     Ok(plainly(said))
 }
 
-// Reads a message. A wrapper's contents are its data past the first 20 octets.
+// A wrapper's contents are its data past so many octets. The number is 01's, and not taken from the library that is tested.
+const FIELDS: usize = 20;
+
+// Reads a message.
 pub fn read_step(alloc: Global, vector: u8, data: &[u8]) -> Result<Ran, AllocError> {
     let mut said = String::new(alloc);
     match message::read_message(vector, data) {
-        Ok(m) => write_message(&mut said, m, data.get(20..).unwrap_or(&[]))?,
+        Ok(m) => write_message(&mut said, m, data.get(FIELDS..).unwrap_or(&[]))?,
         Err(refusal) => writeln!(said, "= {}", Spelled(refusal))?,
     }
     Ok(plainly(said))
@@ -56,6 +59,6 @@ pub fn write_step(
     }
     Ok(Ran {
         said,
-        fault: room.first_changed().map(Fault::Room),
+        fault: room.fault("the room"),
     })
 }

@@ -6,7 +6,7 @@ use record::{Place, Record};
 use std::alloc::Global;
 
 // What a call may be lent.
-#[derive(Clone, Copy, PartialEq, Eq)]
+#[derive(Clone, Copy)]
 pub enum Piece {
     Table,
     Held,
@@ -36,6 +36,7 @@ pub struct SetPlace {
     pub contents: Vec<u8>,
 }
 
+// A step: what of the library is called, and with which values.
 #[derive(Drop)]
 pub enum Step {
     Message {
@@ -63,6 +64,16 @@ pub enum Step {
         message: Message,
         contents: Vec<u8>,
     },
+}
+
+impl Step {
+    // Whether it is a call over the table.
+    pub fn takes_table(&self) -> bool {
+        matches!(
+            self,
+            Step::Message { .. } | Step::Elapsed(_) | Step::Leave { .. }
+        )
+    }
 }
 
 // The most octets of our CID: a case may be about another length than 16.
@@ -104,6 +115,7 @@ impl Value for SetPlace {
     }
 }
 
+// Only a wrapper has contents.
 fn read_write(r: &mut Reader<'_>) -> Result<Step, Misread> {
     let room = r.value::<u16>()?.into();
     let message = r.value()?;

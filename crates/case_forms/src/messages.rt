@@ -203,49 +203,44 @@ impl fmt::Display for Spelled<Join> {
     }
 }
 
+// A message without its contents, as it is read.
+impl fmt::Display for Spelled<Message> {
+    fn fmt<W: fmt::Write>(&self, f: &mut fmt::Formatter<W>) -> fmt::Result {
+        match self.0 {
+            Message::Join(j) => write!(f, "join {}", Spelled(j)),
+            Message::JoinAccept { member, reciprocal } => {
+                write!(f, "accept {} reciprocal {reciprocal}", Spelled(member))
+            }
+            Message::JoinRefuse { member, reason } => {
+                write!(f, "refuse {} reason {reason}", Spelled(member))
+            }
+            Message::Leaving { member, reason } => {
+                write!(f, "leaving {} reason {reason}", Spelled(member))
+            }
+            Message::Nak {
+                member,
+                first,
+                last,
+            } => write!(
+                f,
+                "nak {} first {} last {}",
+                Spelled(member),
+                first.0,
+                last.0
+            ),
+            Message::ReliableWrapper(w) => write!(f, "reliable {}", Spelled(w)),
+            Message::UnreliableWrapper(w) => write!(f, "unreliable {}", Spelled(w)),
+            Message::GetSessions(c) => write!(f, "get sessions cid {}", Spelled(c)),
+            Message::Ack(r) => write!(f, "ack reliable {}", r.0),
+        }
+    }
+}
+
 // A line that gives a message, and for a wrapper its contents.
 pub fn write_message(said: &mut String, m: Message, contents: &[u8]) -> Result<(), AllocError> {
-    match m {
-        Message::Join(j) => writeln!(said, "= join {}", Spelled(j)),
-        Message::JoinAccept { member, reciprocal } => writeln!(
-            said,
-            "= accept {} reciprocal {reciprocal}",
-            Spelled(member)
-        ),
-        Message::JoinRefuse { member, reason } => writeln!(
-            said,
-            "= refuse {} reason {reason}",
-            Spelled(member)
-        ),
-        Message::Leaving { member, reason } => writeln!(
-            said,
-            "= leaving {} reason {reason}",
-            Spelled(member)
-        ),
-        Message::Nak {
-            member,
-            first,
-            last,
-        } => writeln!(
-            said,
-            "= nak {} first {} last {}",
-            Spelled(member),
-            first.0,
-            last.0
-        ),
-        Message::ReliableWrapper(w) => writeln!(
-            said,
-            "= reliable {} contents {}",
-            Spelled(w),
-            Hex(contents)
-        ),
-        Message::UnreliableWrapper(w) => writeln!(
-            said,
-            "= unreliable {} contents {}",
-            Spelled(w),
-            Hex(contents)
-        ),
-        Message::GetSessions(c) => writeln!(said, "= get sessions cid {}", Spelled(c)),
-        Message::Ack(r) => writeln!(said, "= ack reliable {}", r.0),
+    write!(said, "= {}", Spelled(m))?;
+    if let Message::ReliableWrapper(_) | Message::UnreliableWrapper(_) = m {
+        write!(said, " contents {}", Hex(contents))?;
     }
+    said.push_str("\n")
 }

@@ -4,7 +4,7 @@ ghost use Rattle.std.specs.Prelude.{◌≤◌, IfOk, vec_len};
 use crate::misread::{Misread, Wanted};
 use case_text::{Words, decimal, octets};
 use counter::{Reliable, Total};
-use message::Cid;
+use message::{Cid, cid_at};
 use std::alloc::Global;
 use std::str;
 
@@ -45,6 +45,7 @@ impl<'a> Reader<'a> {
         str::from_utf8(self.word()).unwrap_or("")
     }
 
+    // A value by the next words.
     pub fn value<V: Value>(&mut self) -> Result<V, Misread> {
         V::read(self)
     }
@@ -65,6 +66,7 @@ impl<'a> Reader<'a> {
         self.value()
     }
 
+    // A number up to the most.
     pub fn number(&mut self, most: u32) -> Result<u32, Misread>
         ensures { IfOk result (λ n. n ≤ most) }
     {
@@ -80,6 +82,7 @@ impl<'a> Reader<'a> {
         Ok(self.number(last)? as usize)
     }
 
+    // Octets in hex. A word with an odd number of characters is told apart.
     pub fn octets(&mut self) -> Result<Vec<u8>, Misread> {
         let at = self.at();
         let word = self.word();
@@ -90,6 +93,7 @@ impl<'a> Reader<'a> {
         }
     }
 
+    // Octets in hex, up to the most.
     pub fn octets_up_to(&mut self, most: usize) -> Result<Vec<u8>, Misread>
         ensures { IfOk result (λ octets. vec_len octets ≤ most) }
     {
@@ -102,6 +106,7 @@ impl<'a> Reader<'a> {
         }
     }
 
+    // An IPv4 address as a number.
     pub fn host(&mut self) -> Result<u32, Misread> {
         let at = self.at();
         host(self.word()).ok_or(Misread::At(at, Wanted::Host))
@@ -117,7 +122,7 @@ impl<'a> Reader<'a> {
     }
 }
 
-// An address A.B.C.D.
+// An address A.B.C.D. Its octets may have leading zeros, which std's `Ipv4Addr` refuses.
 fn host(word: &[u8]) -> Option<u32> {
     let mut parts = word.split(|b| *b == b'.');
     let mut octets = [0u8; 4];
@@ -128,17 +133,6 @@ fn host(word: &[u8]) -> Option<u32> {
         Some(_) => None,
         None => Some(u32::from_be_bytes(octets)),
     }
-}
-
-// The CID that 16 octets are.
-fn cid(octets: &[u8]) -> Option<Cid> {
-    let ([high, low], []) = octets.as_chunks::<8>() else {
-        return None;
-    };
-    Some(Cid {
-        high: u64::from_be_bytes(*high),
-        low: u64::from_be_bytes(*low),
-    })
 }
 
 impl Value for u8 {
@@ -180,9 +174,10 @@ impl Value for Reliable {
 impl Value for Cid {
     fn read(r: &mut Reader<'_>) -> Result<Cid, Misread> {
         let at = r.at();
-        octets(r.alloc, r.word())?
-            .and_then(|octets| cid(octets.as_slice()))
-            .ok_or(Misread::At(at, Wanted::Cid))
+        match octets(r.alloc, r.word())? {
+            Some(octets) if octets.len() == 16 => Ok(cid_at(&octets, 0)),
+            _ => Err(Misread::At(at, Wanted::Cid)),
+        }
     }
 }
 

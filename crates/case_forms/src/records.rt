@@ -11,6 +11,7 @@ use std::fmt;
 
 // ---- reading
 
+// Never kept: `Setting::set_record` leaves the places. A type of the line without them would have all other fields of `Record` again, and copy each.
 const FREE_PLACE: Place = Place {
     used: false,
     total: Total(0),
@@ -36,7 +37,8 @@ impl Value for Gap {
     }
 }
 
-// A used record. Its places are no part of its line: they are free.
+// A used record, by the words of its line in their order: the counters stand between the names of the channel and its other terms. Its places are no
+// part of its line: they are free.
 impl Value for Record {
     fn read(r: &mut Reader<'_>) -> Result<Record, Misread> {
         let owner = r.field("owner")?;
@@ -100,48 +102,55 @@ impl fmt::Display for Spelled<Refusal> {
     }
 }
 
+// How a line says whether a record or a place is used.
 fn used(used: bool) -> &'static str {
     if used { "used" } else { "free" }
 }
 
-// The names of a channel, its counters, and the rest of its terms, in the order of a record's line.
-fn write_record(said: &mut String, i: usize, r: Record) -> Result<(), AllocError> {
-    let t = r.terms;
-    write!(
-        said,
-        "= record {i} {} owner {} channel {} mid {} reciprocal {}",
-        used(r.used),
-        Spelled(t.owner),
-        t.channel,
-        t.mid,
-        t.reciprocal
-    )?;
-    write!(
-        said,
-        " total {} reliable {} known {} acked {}",
-        r.total.0, r.reliable.0, r.known.0, r.acked.0
-    )?;
-    write!(
-        said,
-        " expiry {} outbound {} holdoff {} modulus {} maxwait {}",
-        t.expiry,
-        u8::from(t.outbound),
-        t.holdoff,
-        t.modulus,
-        t.maxwait
-    )?;
-    writeln!(said, " idle {} gap {}", r.idle, Spelled(r.gap))
+// In the order of a record's line: the names of a channel, its counters, and the rest of its terms.
+impl fmt::Display for Spelled<Record> {
+    fn fmt<W: fmt::Write>(&self, f: &mut fmt::Formatter<W>) -> fmt::Result {
+        let r = self.0;
+        let t = r.terms;
+        write!(
+            f,
+            "{} owner {} channel {} mid {} reciprocal {}",
+            used(r.used),
+            Spelled(t.owner),
+            t.channel,
+            t.mid,
+            t.reciprocal
+        )?;
+        write!(
+            f,
+            " total {} reliable {} known {} acked {}",
+            r.total.0, r.reliable.0, r.known.0, r.acked.0
+        )?;
+        write!(
+            f,
+            " expiry {} outbound {} holdoff {} modulus {} maxwait {}",
+            t.expiry,
+            u8::from(t.outbound),
+            t.holdoff,
+            t.modulus,
+            t.maxwait
+        )?;
+        write!(f, " idle {} gap {}", r.idle, Spelled(r.gap))
+    }
 }
 
-fn write_place(said: &mut String, i: usize, j: usize, p: Place) -> Result<(), AllocError> {
-    writeln!(
-        said,
-        "= place {i} {j} {} total {} reliable {} length {}",
-        used(p.used),
-        p.total.0,
-        p.reliable.0,
-        p.len
-    )
+impl fmt::Display for Spelled<Place> {
+    fn fmt<W: fmt::Write>(&self, f: &mut fmt::Formatter<W>) -> fmt::Result {
+        let p = self.0;
+        write!(
+            f,
+            "{} total {} reliable {} length {}",
+            used(p.used),
+            p.total.0,
+            p.reliable.0,
+            p.len
+        )
+    }
 }
 
 // A record that changed, and each of its places that did.
@@ -154,10 +163,10 @@ fn write_changed(
     if before == after {
         return Ok(());
     }
-    write_record(said, i, *after)?;
+    writeln!(said, "= record {i} {}", Spelled(*after))?;
     for (j, (p, q)) in before.places.iter().zip(&after.places).enumerate() {
         if p != q {
-            write_place(said, i, j, *q)?;
+            writeln!(said, "= place {i} {j} {}", Spelled(*q))?;
         }
     }
     Ok(())

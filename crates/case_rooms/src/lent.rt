@@ -1,4 +1,5 @@
 // The octets that a step is lent: what lies in a room before it, and which octets it has changed.
+use crate::Fault;
 use case_forms::lines::Piece;
 use case_text::Hex;
 use std::alloc::{AllocError, Global};
@@ -9,7 +10,7 @@ const FILL: u8 = 170;
 // The most octets that a piece is lent with.
 const MOST: usize = 65536;
 
-// A place and a delivery's cell have this many octets.
+// A place and a delivery's cell have this many octets. This size and those below are 01's, and not taken from the library that is tested.
 pub const PLACE: usize = 1454;
 
 // The cell of a record's NAK or Leaving has this many.
@@ -74,9 +75,10 @@ impl Room {
         Ok(())
     }
 
-    // The first octet that was changed.
-    pub fn first_changed(&self) -> Option<usize> {
-        self.octets.iter().position(|b| *b != FILL)
+    // The first octet that was changed. A report calls the room `piece`.
+    pub fn fault(&self, piece: &'static str) -> Option<Fault> {
+        let at = self.octets.iter().position(|b| *b != FILL)?;
+        Some(Fault { at, piece })
     }
 }
 
@@ -131,12 +133,16 @@ impl Held {
     }
 
     // The first of the n octets that is not what it was. They are compared whole first, which is much faster.
-    pub fn first_changed(&self, n: usize) -> Option<usize> {
+    pub fn fault(&self, n: usize) -> Option<Fault> {
         let now = self.octets.as_slice().get(..n)?;
         let before = self.before.as_slice().get(..n)?;
         if now == before {
             return None;
         }
-        now.iter().zip(before).position(|(a, b)| a != b)
+        let at = now.iter().zip(before).position(|(a, b)| a != b)?;
+        Some(Fault {
+            at,
+            piece: "the held octets",
+        })
     }
 }

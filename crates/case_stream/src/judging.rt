@@ -3,18 +3,20 @@ use crate::report::{Report, Stage};
 use case_text::{is_blank, is_same_line, trim};
 use std::{io, mem};
 
-// What a step gave: its lines, and how many of them were compared; and the number of the last `=` line, if there was one.
+// What a step gave: its lines, and how many octets of them are left to be compared; and the number of the last `=` line, if there was one.
 #[derive(Drop)]
 pub struct Given {
     lines: String,
-    compared: usize,
+    // A length and no `&str`, since a struct cannot borrow from its own `String`.
+    left: usize,
     last: Option<u64>,
 }
 
 impl Given {
-    // The next line to be compared.
-    fn next(&self) -> Option<&str> {
-        self.lines.lines().nth(self.compared)
+    // The next line to be compared, and those behind it.
+    fn next(&self) -> Option<(&str, &str)> {
+        let at = self.lines.len().saturating_sub(self.left);
+        self.lines.as_str().get(at..)?.split_once('\n')
     }
 }
 
@@ -28,8 +30,8 @@ impl Report {
     pub fn take_step(&mut self, lines: String) -> io::Result<()> {
         self.output.pass_on(lines.as_bytes())?;
         self.stage = Stage::Stepped(Given {
+            left: lines.len(),
             lines,
-            compared: 0,
             last: None,
         });
         Ok(())
@@ -50,7 +52,7 @@ impl Report {
     // If there were lines under a step, it must have given no more than they say.
     fn close_step(&mut self, given: &Given) -> io::Result<()> {
         match (given.last, given.next()) {
-            (Some(line), Some(more)) => self.fail_with(line, b"nothing more", more.as_bytes()),
+            (Some(line), Some((more, _))) => self.fail_with(line, b"nothing more", more.as_bytes()),
             _ => Ok(()),
         }
     }
@@ -75,15 +77,16 @@ impl Report {
     // Holds the next line that the step gave against a line.
     fn compare(&mut self, given: Given, line: &[u8]) -> io::Result<()> {
         match given.next() {
-            Some(next) if is_same_line(behind_equals(next.as_bytes()), behind_equals(line)) => {
+            Some((next, rest))
+                if is_same_line(behind_equals(next.as_bytes()), behind_equals(line)) => {
                 self.stage = Stage::Stepped(Given {
-                    compared: given.compared.saturating_add(1),
+                    left: rest.len(),
                     last: Some(self.line),
                     ..given
                 });
                 Ok(())
             }
-            Some(next) => self.fail_with(self.line, line, next.as_bytes()),
+            Some((next, _)) => self.fail_with(self.line, line, next.as_bytes()),
             None => self.fail_with(self.line, line, b"nothing more"),
         }
     }

@@ -164,9 +164,11 @@ impl Report {
     // The tally, which `show` has not, ends the report.
     pub fn tally(&mut self) -> io::Result<()> {
         if !self.output.shows() {
-            let passed = self.passed;
-            let failed = self.failed;
-            writeln!(self.output, "{passed} passed, {failed} failed")?;
+            writeln!(
+                self.output,
+                "{} passed, {} failed",
+                self.passed, self.failed
+            )?;
         }
         self.output.flush()
     }

@@ -39,6 +39,7 @@ impl<R: Read + Drop> Source<R> {
     // One turn, or none at the end of the input.
     pub fn next_turn(&mut self) -> io::Result<Option<Turn<'_>>> {
         self.found.clear();
+        // A loop that runs until its input ends has no measure, so it is a counted one.
         for _ in 0..u64::MAX {
             if self.read_on()? {
                 return Ok(Some(self.line()));

@@ -21,6 +21,7 @@ fn run<R: Read + Drop>(rt: &HostRuntime, input: R, show: bool) -> io::Result<()>
     let mut source = Source::new(alloc, input)?;
     let output = Output::new(alloc, rt.stdout(), rt.stderr(), show);
     let mut runner = Runner::new(alloc, output)?;
+    // A loop that runs until its input ends has no measure, so it is a counted one.
     for _ in 0..u64::MAX {
         match source.next_turn() {
             Ok(Some(turn)) => runner.take_turn(turn)?,
@@ -60,7 +61,7 @@ fn run_named(rt: &HostRuntime, path: &[u8], show: bool) -> io::Result<()> {
     }
 }
 
-// An argument is missing or too long, as the system's errors of these numbers say.
+// An argument is missing or too long: EINVAL and ENAMETOOLONG by their numbers, since the system's words for these errors are what is printed.
 fn unread(error: FillError) -> io::Error {
     match error {
         FillError::NotPresent => io::Error::from_raw_os_error(22),
@@ -68,7 +69,7 @@ fn unread(error: FillError) -> io::Error {
     }
 }
 
-// Runs the file that argument i names. `env::args` has no name that is no text, so that the octets come into a buffer.
+// Runs the file that argument i names. Its octets come into a buffer: where one argument is no text, `env::args` gives none at all.
 fn run_file(rt: &HostRuntime, i: usize, show: bool) -> io::Result<()> {
     let mut word = [0u8; WORD];
     match rt.arg(i, &mut word) {
@@ -77,7 +78,7 @@ fn run_file(rt: &HostRuntime, i: usize, show: bool) -> io::Result<()> {
     }
 }
 
-// Whether the first argument is `show`: a longer one does not fit.
+// Whether the first argument is `show`, in a buffer of its length: a longer one does not fit.
 fn is_show(rt: &impl Env) -> bool {
     let mut word = [0u8; 4];
     matches!(rt.arg(1, &mut word), Ok(4)) && word == *b"show"

@@ -83,19 +83,9 @@ impl Runner {
         Ok(())
     }
 
-    // The library takes its eight records by value.
-    fn lacks_table(&self, step: &Step) -> bool {
-        match step {
-            Step::Message { .. } | Step::Elapsed(_) | Step::Leave { .. } => {
-                self.setting.lent.table != 8
-            }
-            Step::Block { .. } | Step::Read { .. } | Step::Write { .. } => false,
-        }
-    }
-
-    // Runs a step. What was lent for it is spent.
+    // Runs a step. What was lent for it is spent. The library takes its eight records by value.
     fn take_step(&mut self, step: Step) -> io::Result<()> {
-        if self.lacks_table(&step) {
+        if step.takes_table() && self.setting.lent.table != 8 {
             let reason = "a table of another number of records than 8 cannot be lent yet";
             return self.report.fail_for(reason);
         }
