@@ -9,7 +9,8 @@ ghost use Rattle.block.specs.Allowed.{ReadBlockAllows, OpenBlockAllows, NextMess
 
 use refusal::Refusal;
 
-// A message of a block: the place of its vector, and the place and length of its data.
+// A message of a block: the place of its vector, and the place and length of its data. Numbers and no slices, since 01 asks for the place within
+// the block, and sdt_read_block and sdt_next_message hand it to C.
 #[repr(C)]
 #[derive(Clone, Copy)]
 pub struct Found {
@@ -25,7 +26,8 @@ pub struct Whole {
     pub next: usize,
 }
 
-// Where reading goes on: the place of the next PDU, and the message before it, from which that PDU may take its vector or its data.
+// Where reading goes on: the place of the next PDU, and the message before it, from which that PDU may take its vector or its data. `before` is no
+// Option, since C holds this struct (sdt_open_block, sdt_next_message): before the first PDU it is NOTHING.
 #[repr(C)]
 #[derive(Clone, Copy)]
 pub struct Cursor {
@@ -77,6 +79,7 @@ pub const START: Cursor = Cursor {
     before: NOTHING,
 };
 
+// The flags are taken by / and %: with & the proofs of `has_v` and `lacks_flag` did not close.
 impl Flags {
     fn has_l(self) -> bool
         ensures { result ≡ has_l self.0 }
@@ -165,9 +168,9 @@ fn size_at(block: &[u8], at: usize) -> usize
     ensures { (result ≡ size_at block.now at) × (result < 1048576) }
 {
     let flags = Flags(block[at]);
-    let short = flags.0 as usize % 16 * 256 + block[at + 1] as usize;
+    let short = usize::from(flags.0) % 16 * 256 + usize::from(block[at + 1]);
     if flags.has_l() {
-        short * 256 + block[at + 2] as usize
+        short * 256 + usize::from(block[at + 2])
     } else {
         short
     }
@@ -207,6 +210,7 @@ fn scan(block: &[u8], position: usize) -> Result<Scanned, Refusal>
     let mut count = 0;
     let mut before = NOTHING;
     let mut found = None;
+    // No range is counted here: `at` moves on by each PDU's own length (the new form is no plainer).
     while at < block.len() {
         let Some(whole) = pdu_at(block, at, before) else {
             return Err(Refusal::Malformed(at));

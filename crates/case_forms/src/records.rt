@@ -97,7 +97,7 @@ impl fmt::Display for Spelled<Refusal> {
     fn fmt<W: fmt::Write>(&self, f: &mut fmt::Formatter<W>) -> fmt::Result {
         match self.0 {
             Refusal::Malformed(at) => write!(f, "refused 11 at {at}"),
-            refusal => write!(f, "refused {}", refusal.number()),
+            refusal => write!(f, "refused {}", u8::from(refusal)),
         }
     }
 }

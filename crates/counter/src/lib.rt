@@ -78,6 +78,6 @@ impl Reliable {
     pub fn before(self, threshold: u16) -> Reliable
         ensures { result.0 ≡ before threshold self.0 }
     {
-        Reliable(self.0.wrapping_sub(threshold as u32))
+        Reliable(self.0.wrapping_sub(u32::from(threshold)))
     }
 }

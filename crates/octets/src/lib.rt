@@ -2,9 +2,11 @@
 #![tactic(auto)]
 
 ghost use Rattle.std.specs.Prelude.{◌≡◌, ◌+◌, ◌≤◌, ℕ, length};
-ghost use Rattle.octets.specs.Octets.{octets, part, number_at, splice};
+ghost use Rattle.octets.specs.Octets.{octets, number_at, splice};
 
-// A number that a layout has as a field: the octets that it takes there, and reading and writing them.
+// A number that a layout has as a field: the octets that it takes there, and reading and writing them. That the octets are there, `at` and the
+// width within the slice, stands at each function that reads or writes: `at` is another place in each, and a type for a slice with a place in it
+// would promise after each write that it is still the same slice (the new form is no plainer).
 pub trait Field: Copy {
     ghost width: { ℕ };
 
@@ -45,7 +47,7 @@ impl Field for u16 {
 
     #[tactic(auto, using(crate::proofs::Numbers::number_two))]
     fn at(s: &[u8], at: usize) -> u16 {
-        u16::from_be_bytes([s[at], s[at + 1]])
+        u16::from_be_bytes(*s[at..at + 2].as_array().unwrap())
     }
 
     #[tactic(auto, using(crate::proofs::Writes::number_copied))]
@@ -62,7 +64,7 @@ impl Field for u32 {
 
     #[tactic(auto, using(crate::proofs::Numbers::number_four))]
     fn at(s: &[u8], at: usize) -> u32 {
-        u32::from_be_bytes([s[at], s[at + 1], s[at + 2], s[at + 3]])
+        u32::from_be_bytes(*s[at..at + 4].as_array().unwrap())
     }
 
     #[tactic(auto, using(crate::proofs::Writes::number_copied))]
@@ -79,16 +81,7 @@ impl Field for u64 {
 
     #[tactic(auto, using(crate::proofs::Numbers::number_eight))]
     fn at(s: &[u8], at: usize) -> u64 {
-        u64::from_be_bytes([
-            s[at],
-            s[at + 1],
-            s[at + 2],
-            s[at + 3],
-            s[at + 4],
-            s[at + 5],
-            s[at + 6],
-            s[at + 7],
-        ])
+        u64::from_be_bytes(*s[at..at + 8].as_array().unwrap())
     }
 
     #[tactic(auto, using(crate::proofs::Writes::number_copied))]
@@ -105,13 +98,4 @@ pub fn copy_into(to: &mut [u8], at: usize, from: &[u8])
     ensures { to.new ≡ splice to.old at from.now }
 {
     to[at..at + from.len()].copy_from_slice(from);
-}
-
-// Copies the `len` octets of `from` that begin at `start` over the octets of `to` from `at` on.
-pub fn copy_part(to: &mut [u8], at: usize, from: &[u8], start: usize, len: usize)
-    requires len_in_bounds { start + len ≤ length from.now }
-    requires len_in_bounds_2 { at + len ≤ length to.old }
-    ensures { to.new ≡ splice to.old at (part from.now start len) }
-{
-    copy_into(to, at, &from[start..start + len]);
 }

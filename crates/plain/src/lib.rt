@@ -1,11 +1,13 @@
 // A message as a struct of numbers, as C passes and receives it, and back.
 #![tactic(auto)]
 
-ghost use Rattle.std.specs.Prelude.{◌≡◌};
+ghost use Rattle.std.specs.Prelude.{◌≡◌, ok_or};
 ghost use Rattle.plain.specs.Messages.{member_subject, wrapper_plain, join_plain, plain_of, address_of, member_of, wrapper_of, join_of, typed_of};
+ghost use Rattle.refusal.specs.declared.Refusal.TheVariants.{NoForm};
 
 use counter::{Reliable, Total};
 use message::{Address, Cid, Endpoint, Join, Membership, Message, Parameters, Wrapper};
+use refusal::Refusal;
 
 // Whom a message concerns: a component, a channel, a member, and the reliable number that it names.
 #[repr(C)]
@@ -290,37 +292,43 @@ fn join_of(p: Plain) -> Join
     }
 }
 
-// The message that a struct of numbers is, or none if its vector is not one of the nine.
-#[inline(always)]
-#[tactic(auto, unfolding(crate::specs::Messages::typed_of))]
-pub fn typed_of(p: Plain) -> Option<Message>
-    ensures { result ≡ typed_of p }
-{
-    match p.vector {
-        message::RELIABLE_WRAPPER => Some(Message::ReliableWrapper(wrapper_of(p.subject, p.order))),
-        message::UNRELIABLE_WRAPPER => Some(Message::UnreliableWrapper(wrapper_of(
-            p.subject, p.order,
-        ))),
-        message::JOIN => Some(Message::Join(join_of(p))),
-        message::JOIN_REFUSE => Some(Message::JoinRefuse {
-            member: Membership::from(p.subject),
-            reason: p.reason,
-        }),
-        message::JOIN_ACCEPT => Some(Message::JoinAccept {
-            member: Membership::from(p.subject),
-            reciprocal: p.reciprocal,
-        }),
-        message::LEAVING => Some(Message::Leaving {
-            member: Membership::from(p.subject),
-            reason: p.reason,
-        }),
-        message::ACK => Some(Message::Ack(Reliable(p.subject.reliable))),
-        message::NAK => Some(Message::Nak {
-            member: Membership::from(p.subject),
-            first: Reliable(p.missed.first),
-            last: Reliable(p.missed.last),
-        }),
-        message::GET_SESSIONS => Some(Message::GetSessions(p.subject.cid)),
-        _ => None,
+// The message that a struct of numbers is, unless its vector is not one of the nine.
+impl TryFrom<Plain> for Message {
+    type Error = Refusal;
+
+    ghost try_from_gives = { λ p m. m ≡ ok_or (typed_of p) NoForm };
+
+    #[inline(always)]
+    #[tactic(auto, unfolding(crate::specs::Messages::typed_of))]
+    fn try_from(p: Plain) -> Result<Message, Refusal> {
+        match p.vector {
+            message::RELIABLE_WRAPPER => {
+                Ok(Message::ReliableWrapper(wrapper_of(p.subject, p.order)))
+            }
+            message::UNRELIABLE_WRAPPER => {
+                Ok(Message::UnreliableWrapper(wrapper_of(p.subject, p.order)))
+            }
+            message::JOIN => Ok(Message::Join(join_of(p))),
+            message::JOIN_REFUSE => Ok(Message::JoinRefuse {
+                member: Membership::from(p.subject),
+                reason: p.reason,
+            }),
+            message::JOIN_ACCEPT => Ok(Message::JoinAccept {
+                member: Membership::from(p.subject),
+                reciprocal: p.reciprocal,
+            }),
+            message::LEAVING => Ok(Message::Leaving {
+                member: Membership::from(p.subject),
+                reason: p.reason,
+            }),
+            message::ACK => Ok(Message::Ack(Reliable(p.subject.reliable))),
+            message::NAK => Ok(Message::Nak {
+                member: Membership::from(p.subject),
+                first: Reliable(p.missed.first),
+                last: Reliable(p.missed.last),
+            }),
+            message::GET_SESSIONS => Ok(Message::GetSessions(p.subject.cid)),
+            _ => Err(Refusal::NoForm),
+        }
     }
 }

@@ -4,8 +4,6 @@
 ghost use Rattle.std.specs.Prelude.{◌≡◌};
 ghost use Rattle.refusal.specs.Numbers.{number_of};
 
-use std::fmt;
-
 // Why a call is refused. A refused call changes nothing.
 #[derive(Clone, Copy, Debug, PartialEq, Eq)]
 pub enum Refusal {
@@ -33,12 +31,12 @@ pub enum Refusal {
     Malformed(usize),
 }
 
-impl Refusal {
-    // 01's number.
-    pub fn number(self) -> u8
-        ensures { result ≡ number_of self }
-    {
-        match self {
+// 01's number.
+impl From<Refusal> for u8 {
+    ghost from_gives = { λ refusal n. n ≡ number_of refusal };
+
+    fn from(refusal: Refusal) -> u8 {
+        match refusal {
             Refusal::WrongSize => 1,
             Refusal::WrongTable => 2,
             Refusal::TooMuchTime => 3,
@@ -50,24 +48,6 @@ impl Refusal {
             Refusal::Inconsistent => 9,
             Refusal::WrongReason => 10,
             Refusal::Malformed(_) => 11,
-        }
-    }
-}
-
-impl fmt::Display for Refusal {
-    fn fmt<W: fmt::Write>(&self, f: &mut fmt::Formatter<W>) -> fmt::Result {
-        match self {
-            Refusal::WrongSize => write!(f, "1: a size is not as it must be"),
-            Refusal::WrongTable => write!(f, "2: the table is not well formed"),
-            Refusal::TooMuchTime => write!(f, "3: more time passes than a call takes"),
-            Refusal::NoForm => write!(f, "4: no such message"),
-            Refusal::NotForUs => write!(f, "5: no Join or wrapper for us"),
-            Refusal::NoRecord => write!(f, "6: no record has this owner and channel"),
-            Refusal::ContentsOver => write!(f, "7: the contents are longer than a place"),
-            Refusal::Old => write!(f, "8: the wrapper is old"),
-            Refusal::Inconsistent => write!(f, "9: the wrapper is inconsistent"),
-            Refusal::WrongReason => write!(f, "10: the reason is none of a Leaving"),
-            Refusal::Malformed(at) => write!(f, "11: the block is malformed at octet {at}"),
         }
     }
 }

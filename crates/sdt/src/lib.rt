@@ -90,7 +90,7 @@ impl From<Result<Option<Found>, Refusal>> for BlockAnswer {
                 bad: 0,
             },
             Err(r) => BlockAnswer {
-                outcome: r.number() as u32,
+                outcome: u32::from(u8::from(r)),
                 found: NOTHING,
                 bad: place_of(r),
             },
@@ -111,29 +111,10 @@ impl From<Result<Opened, Refusal>> for OpenAnswer {
                 bad: 0,
             },
             Err(r) => OpenAnswer {
-                outcome: r.number() as u32,
+                outcome: u32::from(u8::from(r)),
                 count: 0,
                 cursor: START,
                 bad: place_of(r),
-            },
-        }
-    }
-}
-
-impl From<Result<Message, Refusal>> for MessageAnswer {
-    ghost from_gives = { λ read answer. answer ≡ message_answer read };
-
-    #[inline(always)]
-    #[tactic(auto, unfolding(crate::specs::Messages::message_answer))]
-    fn from(read: Result<Message, Refusal>) -> MessageAnswer {
-        match read {
-            Ok(m) => MessageAnswer {
-                outcome: OK,
-                message: Plain::from(m),
-            },
-            Err(r) => MessageAnswer {
-                outcome: r.number() as u32,
-                message: plain::EMPTY,
             },
         }
     }
@@ -150,7 +131,7 @@ impl From<Result<usize, Refusal>> for WriteAnswer {
                 length,
             },
             Err(r) => WriteAnswer {
-                outcome: r.number() as u32,
+                outcome: u32::from(u8::from(r)),
                 length: 0,
             },
         }
@@ -197,10 +178,23 @@ pub fn sdt_next_message(block: &[u8], cursor: Cursor) -> NextAnswer
 
 // Reads the message of this vector and data.
 #[inline(always)]
+#[tactic(auto, unfolding(crate::specs::Messages::message_answer))]
 pub fn sdt_read_message(vector: u8, body: &[u8]) -> MessageAnswer
     ensures { SdtReadMessageAllows vector body.now result }
 {
-    MessageAnswer::from(message::read_message(vector, body))
+    let m = match message::read_message(vector, body) {
+        Ok(m) => m,
+        Err(r) => {
+            return MessageAnswer {
+                outcome: u32::from(u8::from(r)),
+                message: plain::EMPTY,
+            };
+        }
+    };
+    MessageAnswer {
+        outcome: OK,
+        message: Plain::from(m),
+    }
 }
 
 // Writes a message at the front of the room, with contents if it is a wrapper.
@@ -209,8 +203,8 @@ pub fn sdt_read_message(vector: u8, body: &[u8]) -> MessageAnswer
 pub fn sdt_write_message(m: Plain, contents: &[u8], room: &mut [u8]) -> WriteAnswer
     ensures { SdtWriteMessageAllows m contents.now room.old (record { answer = result; room = room.new }) }
 {
-    let Some(message) = plain::typed_of(m) else {
-        return WriteAnswer::from(Err(Refusal::NoForm));
-    };
-    WriteAnswer::from(writing::write_message(message, contents, room))
+    match Message::try_from(m) {
+        Ok(message) => WriteAnswer::from(writing::write_message(message, contents, room)),
+        Err(refusal) => WriteAnswer::from(Err(refusal)),
+    }
 }

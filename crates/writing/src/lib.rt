@@ -15,6 +15,11 @@ use message::{
 use octets::{Field, copy_into};
 use refusal::Refusal;
 
+// The flags V, H and D of a PDU, in the number that flags and short length are together.
+const V_H_D: usize = 28672;
+
+// The type of an address as a row of the table has it; 2 is no row's. It is a number, since `has_form`, on which theorems on writing stand
+// (`written_again` of demands), compares it with 2.
 fn type_of(address: Address) -> u8
     ensures { result ≡ type_of address }
 {
@@ -159,12 +164,12 @@ fn put_fields(room: &mut [u8], at: usize, m: Message) -> usize
     ensures { (room.new ≡ splice room.old at (fields_of m)) × (result ≡ at + length (fields_of m)) }
 {
     match m {
-        Message::ReliableWrapper(w) => put_wrapper(room, at, w),
-        Message::UnreliableWrapper(w) => put_wrapper(room, at, w),
+        Message::ReliableWrapper(w) | Message::UnreliableWrapper(w) => put_wrapper(room, at, w),
         Message::Join(j) => put_join(room, at, j),
-        Message::JoinRefuse { member, reason } => put_member(room, at, member, reason),
+        Message::JoinRefuse { member, reason } | Message::Leaving { member, reason } => {
+            put_member(room, at, member, reason)
+        }
         Message::JoinAccept { member, reciprocal } => put_member(room, at, member, reciprocal),
-        Message::Leaving { member, reason } => put_member(room, at, member, reason),
         Message::Ack(r) => r.0.put(room, at),
         Message::Nak {
             member,
@@ -181,7 +186,7 @@ fn put_head(room: &mut [u8], size: usize, vector: u8) -> usize
     requires size_bound { size < 4096 }
     ensures { (room.new ≡ splice room.old 0 (head size vector)) × (result ≡ 3) }
 {
-    let at = ((28672 + size) as u16).put(room, 0);
+    let at = ((V_H_D + size) as u16).put(room, 0);
     vector.put(room, at)
 }
 
