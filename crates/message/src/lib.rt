@@ -104,7 +104,8 @@ pub enum Message {
     GetSessions(Cid),
 }
 
-// The vectors of the nine messages.
+// The vectors of the nine messages. They are numbers and no enum, since any octet may stand in a vector's place, C passes it (sdt_read_message), and
+// the table that 01 asks for has it.
 pub const RELIABLE_WRAPPER: u8 = 1;
 
 pub const UNRELIABLE_WRAPPER: u8 = 2;
@@ -123,7 +124,7 @@ pub const NAK: u8 = 15;
 
 pub const GET_SESSIONS: u8 = 16;
 
-// The address types that have a written form.
+// The address types that have a written form: numbers, for the same reason.
 pub const ADDRESS_NULL: u8 = 0;
 
 pub const ADDRESS_IPV4: u8 = 1;
@@ -325,7 +326,8 @@ fn join_of(body: &[u8]) -> Join
     }
 }
 
-// A readable message whose data length is fixed.
+// A readable message whose data length is fixed. Its vector is a number (above), so that it is one of the last six is asked of it as an order of
+// numbers, and the last arm is the vector that is left.
 #[tactic(auto, using(crate::proofs::Readable::fixed_lengths), unfolding(crate::specs::Reading::fixed_of))]
 fn fixed_of(vector: u8, body: &[u8]) -> Message
     requires body_value { readable vector body.now ≡ true }

@@ -1,4 +1,5 @@
-// A message as a struct of numbers, as C passes and receives it, and back.
+// A message as a struct of numbers, as C passes and receives it (sdt_write_message, sdt_read_message in include/sdt.h), and back. The structs here are
+// C's, in names and fields: so the vector and the address type are numbers with values beside them, and what is absent is 0.
 #![tactic(auto)]
 
 ghost use Rattle.std.specs.Prelude.{◌≡◌, ok_or};
@@ -121,6 +122,7 @@ impl From<Subject> for Membership {
     }
 }
 
+// A wrapper with its vector as numbers. This, `address_of` and `wrapper_of` convert two values each: From of a pair would be no plainer.
 fn wrapper_plain(vector: u8, w: Wrapper) -> Plain
     ensures { result ≡ wrapper_plain vector w }
 {
@@ -247,6 +249,7 @@ impl From<Message> for Plain {
     }
 }
 
+// The address of a destination, with the parameters that follow it.
 #[tactic(auto, unfolding(crate::specs::Messages::address_of))]
 fn address_of(d: Destination, p: Parameters) -> Address
     ensures { result ≡ address_of d p }
@@ -264,6 +267,7 @@ fn address_of(d: Destination, p: Parameters) -> Address
     }
 }
 
+// The wrapper of these numbers.
 fn wrapper_of(s: Subject, o: Order) -> Wrapper
     ensures { result ≡ wrapper_of s o }
 {
@@ -278,17 +282,20 @@ fn wrapper_of(s: Subject, o: Order) -> Wrapper
     }
 }
 
-fn join_of(p: Plain) -> Join
-    ensures { result ≡ join_of p }
-{
-    Join {
-        cid: p.subject.cid,
-        mid: p.subject.mid,
-        channel: p.subject.channel,
-        reciprocal: p.reciprocal,
-        total: Total(p.order.total),
-        reliable: Reliable(p.subject.reliable),
-        address: address_of(p.destination, p.parameters),
+impl From<Plain> for Join {
+    ghost from_gives = { λ p j. j ≡ join_of p };
+
+    #[inline(always)]
+    fn from(p: Plain) -> Join {
+        Join {
+            cid: p.subject.cid,
+            mid: p.subject.mid,
+            channel: p.subject.channel,
+            reciprocal: p.reciprocal,
+            total: Total(p.order.total),
+            reliable: Reliable(p.subject.reliable),
+            address: address_of(p.destination, p.parameters),
+        }
     }
 }
 
@@ -308,7 +315,7 @@ impl TryFrom<Plain> for Message {
             message::UNRELIABLE_WRAPPER => {
                 Ok(Message::UnreliableWrapper(wrapper_of(p.subject, p.order)))
             }
-            message::JOIN => Ok(Message::Join(join_of(p))),
+            message::JOIN => Ok(Message::Join(Join::from(p))),
             message::JOIN_REFUSE => Ok(Message::JoinRefuse {
                 member: Membership::from(p.subject),
                 reason: p.reason,

@@ -176,14 +176,15 @@ pub fn sdt_next_message(block: &[u8], cursor: Cursor) -> NextAnswer
     }
 }
 
-// Reads the message of this vector and data.
+// Reads the message of this vector and data. The answer is made here and a refusal returns by itself: by From, as the others are made, reading takes
+// 1.33 times the instructions of plain C, and by one match without `return` 1.37, over the limit of 1.3 (bench/run).
 #[inline(always)]
 #[tactic(auto, unfolding(crate::specs::Messages::message_answer))]
 pub fn sdt_read_message(vector: u8, body: &[u8]) -> MessageAnswer
     ensures { SdtReadMessageAllows vector body.now result }
 {
-    let m = match message::read_message(vector, body) {
-        Ok(m) => m,
+    let message = match message::read_message(vector, body) {
+        Ok(m) => Plain::from(m),
         Err(r) => {
             return MessageAnswer {
                 outcome: u32::from(u8::from(r)),
@@ -193,7 +194,7 @@ pub fn sdt_read_message(vector: u8, body: &[u8]) -> MessageAnswer
     };
     MessageAnswer {
         outcome: OK,
-        message: Plain::from(m),
+        message,
     }
 }
 

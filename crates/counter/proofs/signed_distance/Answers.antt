@@ -1,5 +1,4 @@
 -- The bits of what `ahead_of` counted, read as a signed number, are the distance.
-use Rattle.std.proofs.Common.{Fits}
 use Rattle.counter.proofs.Machine.{read_signed}
 use Rattle.counter.proofs.signed_distance.Goals as goal
 
