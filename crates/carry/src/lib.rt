@@ -18,6 +18,7 @@ pub const HELD: usize = 46528;
 pub const DELIVER: usize = 7270;
 
 // A delivered wrapper. Its contents are the first `len` octets of the delivery cell of the same turn.
+// `reliably` is a truth value, as in `Arrived`: 01 has two kinds of wrappers, reliable or not, and an enum would only be tested for one of its two cases.
 #[derive(Clone, Copy)]
 pub struct Delivery {
     pub reliably: bool,
@@ -53,7 +54,8 @@ impl From<Place> for Delivery {
     }
 }
 
-// The first `count` of `each` are what was delivered, in order: an array with its count beside it, since the library has no heap.
+// The first `count` of `each` are what was delivered, in order.
+// An array with its count beside it: `ArrayVec` is not `Copy` (tried), and deliveries are values that a step copies and adds one to.
 #[derive(Clone, Copy)]
 pub struct Deliveries {
     pub each: [Delivery; 5],
@@ -77,7 +79,7 @@ pub fn no_deliveries() -> Deliveries
 }
 
 // Where place j of record i lies in the held octets.
-// That i is below eight is a premise, and i no type of its own: callers have it of a search of the table, and each definition would take the type off again.
+// That i is below eight and j below four are premises, and i and j no types of their own: callers have them of searches and loops, and each definition would take the type off again.
 #[tactic(auto, unfolding(crate::specs::Carried::place_begins))]
 fn place_begins(i: usize, j: usize) -> usize
     requires { (i < 8) × (j < 4) }
@@ -87,6 +89,7 @@ fn place_begins(i: usize, j: usize) -> usize
 }
 
 // One delivery more: its contents are copied into the next cell.
+// That contents are at most 1,454 octets is a premise here and below, and no type: a slice in a struct would be taken out again to be copied, by each function.
 #[tactic(auto, unfolding(crate::specs::Carried::deliver_from))]
 fn deliver_one(
     deliver: &mut [u8; DELIVER],
@@ -149,6 +152,7 @@ fn deliver_held(
 }
 
 // The plan of a step of record i by a wrapper: its contents are held or delivered, and what is released follows.
+// That the plan fits is a premise, and no invariant of `Plan`: it is so of a plan from a well-formed record alone (proofs/PlanFits), and `wrapper_step` takes any.
 pub fn carry_out(
     held: &mut [u8; HELD],
     deliver: &mut [u8; DELIVER],

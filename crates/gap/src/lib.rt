@@ -13,6 +13,7 @@ use counter::{Counter, Reliable};
 use record::{Gap, Place, Reason, Record, Terms, max_retries, nak_timeout};
 
 // What elapsed time makes a channel send: nothing, a NAK with R, its range and whether it goes outbound too, or Leaving with its reason and R.
+// `Nothing` is a case, and no `Option` around two: each use tells the three apart in one match.
 #[derive(Clone, Copy, Debug, PartialEq, Eq)]
 pub enum Event {
     Nothing,

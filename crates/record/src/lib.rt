@@ -139,7 +139,7 @@ impl Place {
         !(self.used && other.used && self.reliable == other.reliable)
     }
 
-    // The place marked free.
+    // The place marked free. Apart from the record's `freed`: a trait for the two, with its law, would be no plainer than two literals.
     pub fn freed(self) -> Place
         ensures { result ≡ free_place self }
     {

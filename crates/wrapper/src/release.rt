@@ -35,6 +35,7 @@ fn release_at(s: Released, i: usize) -> Released
 }
 
 // Step 4: the lowest of those that are next, as long as there is one.
+// Counted, and no `while let`: as many turns as places are enough (`release_from` counts them), and a `while` asks for a measure, the used places, besides.
 #[tactic(auto, unfolding(crate::specs::Release::released))]
 pub fn release(r: Record) -> Released
     ensures { result ≡ released r }
