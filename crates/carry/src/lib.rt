@@ -3,12 +3,13 @@
 
 ghost use Rattle.std.specs.Prelude.{◌≡◌, [], ◌∷◌, ℕ, ◌+◌, ◌*◌, ◌<◌, ◌≤◌, length, take};
 ghost use Rattle.record.specs.WellFormed.{most_contents};
-ghost use Rattle.carry.specs.Carried.{place_begins, held_after, at_once, from_place, from_places, delivered_by, deliver_from, no_deliveries, one_more, listed};
+ghost use Rattle.carry.specs.Carried.{place_begins, held_after, at_once, from_place, from_places, delivered_by, deliver_from, no_deliveries, one_more, itself, of_held, listed};
 ghost use Rattle.carry.specs.Fits.{Fits};
 
 use counter::{Reliable, Total};
 use message::MOST_CONTENTS;
 use octets::copy_into;
+use record::Place;
 use wrapper::{Arrived, Fate, Plan};
 
 // The octets that are lent: four places of contents for each of eight records, and five cells for deliveries (01, "Room").
@@ -17,6 +18,7 @@ pub const HELD: usize = 46528;
 pub const DELIVER: usize = 7270;
 
 // A delivered wrapper. Its contents are the first `len` octets of the delivery cell of the same turn.
+// `reliably` is a truth value, as in `Arrived`: 01 has two kinds of wrappers, reliable or not, and an enum would only be tested for one of its two cases.
 #[derive(Clone, Copy)]
 pub struct Delivery {
     pub reliably: bool,
@@ -25,7 +27,35 @@ pub struct Delivery {
     pub len: u16,
 }
 
-// The first `count` of `each` are what was delivered, in order: an array with its count beside it, since the library has no heap.
+impl From<Arrived> for Delivery {
+    ghost from_gives = { λ w d. d ≡ itself w };
+
+    fn from(w: Arrived) -> Delivery {
+        Delivery {
+            reliably: w.reliably,
+            total: w.total,
+            reliable: w.reliable,
+            len: w.len,
+        }
+    }
+}
+
+// Only reliable wrappers are held.
+impl From<Place> for Delivery {
+    ghost from_gives = { λ p d. d ≡ of_held p };
+
+    fn from(p: Place) -> Delivery {
+        Delivery {
+            reliably: true,
+            total: p.total,
+            reliable: p.reliable,
+            len: p.len,
+        }
+    }
+}
+
+// The first `count` of `each` are what was delivered, in order.
+// An array with its count beside it: `ArrayVec` is not `Copy` (tried), and deliveries are values that a step copies and adds one to.
 #[derive(Clone, Copy)]
 pub struct Deliveries {
     pub each: [Delivery; 5],
@@ -49,7 +79,7 @@ pub fn no_deliveries() -> Deliveries
 }
 
 // Where place j of record i lies in the held octets.
-// That i is below eight is a premise, and i no type of its own: callers have it of a search of the table, and each definition would take the type off again.
+// That i is below eight and j below four are premises, and i and j no types of their own: callers have them of searches and loops, and each definition would take the type off again.
 #[tactic(auto, unfolding(crate::specs::Carried::place_begins))]
 fn place_begins(i: usize, j: usize) -> usize
     requires { (i < 8) × (j < 4) }
@@ -59,6 +89,7 @@ fn place_begins(i: usize, j: usize) -> usize
 }
 
 // One delivery more: its contents are copied into the next cell.
+// That contents are at most 1,454 octets is a premise here and below, and no type: a slice in a struct would be taken out again to be copied, by each function.
 #[tactic(auto, unfolding(crate::specs::Carried::deliver_from))]
 fn deliver_one(
     deliver: &mut [u8; DELIVER],
@@ -70,12 +101,10 @@ fn deliver_one(
     ensures { (result ≡ one_more before (record { delivery = delivery; contents = contents.now })) × (deliver.new ≡ deliver_from before.count (record { delivery = delivery; contents = contents.now } ∷ []) deliver.old) }
 {
     copy_into(deliver, before.count * MOST_CONTENTS, contents);
-    let mut each = before.each;
-    each[before.count] = delivery;
-    Deliveries {
-        each,
-        count: before.count + 1,
-    }
+    let mut after = before;
+    after.each[before.count] = delivery;
+    after.count += 1;
+    after
 }
 
 // The wrapper itself: it is the first delivery, its contents are copied into a place of record i, or it is dropped.
@@ -92,15 +121,7 @@ fn carry_itself(
     ensures { (result ≡ listed no_deliveries (at_once fate w contents.now)) × (held.new ≡ held_after i fate contents.now held.old) × (deliver.new ≡ deliver_from 0 (at_once fate w contents.now) deliver.old) }
 {
     match fate {
-        Fate::Delivered => {
-            let itself = Delivery {
-                reliably: w.reliably,
-                total: w.total,
-                reliable: w.reliable,
-                len: w.len,
-            };
-            deliver_one(deliver, no_deliveries(), itself, contents)
-        }
+        Fate::Delivered => { deliver_one(deliver, no_deliveries(), w.into(), contents) }
         Fate::Held(j) => {
             copy_into(held, place_begins(i, j), contents);
             no_deliveries()
@@ -124,18 +145,14 @@ fn deliver_held(
     for &j in &plan.order[..plan.count] {
         let p = plan.after.places[j];
         let begin = place_begins(i, j);
-        let released = Delivery {
-            reliably: true,
-            total: p.total,
-            reliable: p.reliable,
-            len: p.len,
-        };
-        all = deliver_one(deliver, all, released, &held[begin..begin + p.len as usize]);
+        let contents = &held[begin..begin + usize::from(p.len)];
+        all = deliver_one(deliver, all, p.into(), contents);
     }
     all
 }
 
 // The plan of a step of record i by a wrapper: its contents are held or delivered, and what is released follows.
+// That the plan fits is a premise, and no invariant of `Plan`: it is so of a plan from a well-formed record alone (proofs/PlanFits), and `wrapper_step` takes any.
 pub fn carry_out(
     held: &mut [u8; HELD],
     deliver: &mut [u8; DELIVER],

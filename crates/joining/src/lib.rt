@@ -94,6 +94,7 @@ fn decide_for(
 }
 
 // What a Join is answered.
+// `free` is a truth value, and no place to take: the decision is of one channel and does not know the table (`depends`, proofs/Depends).
 #[tactic(auto, unfolding(crate::specs::Joining::decided))]
 pub fn decide(j: Join, existing: Option<Existing>, reciprocal: u16, free: bool) -> Decision
     ensures { result ≡ decided j existing reciprocal free }
@@ -137,7 +138,8 @@ pub fn new_record(old: Record, owner: Cid, j: Join, p: Parameters, reciprocal: u
     }
 }
 
-// Apart from `asked_at`, since a record's terms and a Join have nothing in common: one function of both would be the struct's literal.
+// A record's channel at a reliable number, as a message names it.
+// Apart from `asked_at`: one function of what both have would take leader, channel, MID and number, which is the struct's literal.
 #[tactic(auto, unfolding(crate::specs::Replies::member_at))]
 fn member_at(t: Terms, reliable: Reliable) -> Membership
     ensures { result ≡ member_at t reliable }
@@ -150,6 +152,7 @@ fn member_at(t: Terms, reliable: Reliable) -> Membership
     }
 }
 
+// The same of a Join that has no record yet.
 #[tactic(auto, unfolding(crate::specs::Replies::asked_at))]
 fn asked_at(owner: Cid, j: Join, reliable: Reliable) -> Membership
     ensures { result ≡ asked_at owner j reliable }
@@ -162,7 +165,7 @@ fn asked_at(owner: Cid, j: Join, reliable: Reliable) -> Membership
     }
 }
 
-// The Join Refuse of a Join.
+// The Join Refuse of a Join. The reason is the message's number, since docs/DEMANDS.md names `join_refuse_of`, and a `Reason` would ask more of callers.
 #[tactic(auto, unfolding(crate::specs::Replies::join_refuse_of))]
 pub fn join_refuse_of(owner: Cid, j: Join, reason: u8) -> Message
     ensures { result ≡ join_refuse_of owner j reason }
@@ -184,7 +187,7 @@ pub fn acceptance_of(owner: Cid, j: Join, reliable: Reliable, reciprocal: u16) -
     }
 }
 
-// The Leaving of a channel.
+// The Leaving of a channel, with its reason as the message's number, as in `join_refuse_of`.
 #[tactic(auto, unfolding(crate::specs::Replies::departure))]
 pub fn departure_of(t: Terms, reliable: Reliable, reason: u8) -> Message
     ensures { result ≡ departure t reliable reason }

@@ -14,6 +14,7 @@ use record::{Reason, Record};
 use refusal::Refusal;
 
 // A wrapper that has arrived: `reliably` if it is a reliable one, its numbers, and the length of its contents.
+// `reliably` is a truth value: 01 has two kinds of wrappers, reliable or not, and an enum would only be tested for one of its two cases.
 #[derive(Clone, Copy)]
 pub struct Arrived {
     pub reliably: bool,
@@ -45,13 +46,13 @@ pub struct Placed {
 #[derive(Clone, Copy)]
 pub struct Released {
     pub after: Record,
-    // An array with its count beside it, here and in `Plan`: the library has no heap.
+    // An array with its count beside it, here and in `Plan`: `ArrayVec` is not `Copy` (tried), and both are values that are copied, as by `release_at`.
     pub order: [usize; 4],
     pub count: usize,
     pub thrown: usize,
 }
 
-// What is sent.
+// What is sent. `Nothing` is a case, and no `Option` around two: each use tells the three apart in one match.
 #[derive(Clone, Copy)]
 pub enum Reply {
     Nothing,
