@@ -13,7 +13,7 @@ use Rattle.counter.specs.declared.Reliable.{Reliable}
 use Rattle.counter.proofs.Distances.{at_least, test_not_farther}
 use Rattle.record.specs.Profile.{nak_timeout, max_retries}
 use Rattle.record.specs.Legal.{legal_names, legal_parameters}
-use Rattle.record.specs.Lowest.{all_apart}
+use Rattle.record.specs.Searches.{all_apart}
 use Rattle.record.specs.Places.{place_at}
 use Rattle.record.specs.WellFormed.{most_contents, held_right, apart, apart_from, held_apart, held_all_right, closed, gap_right, terms_right, well_formed}
 use Rattle.record.specs.declared.Gap.{Gap}

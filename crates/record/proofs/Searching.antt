@@ -14,7 +14,7 @@ use Rattle.std.specs.Prelude.{position, Some, None}
 use Rattle.std.specs.List.{position_from, position_or_len, list_all}
 use Rattle.std.proofs.lemmas.Iterator.Adapters.{position_from-zero}
 use Rattle.std.proofs.lemmas.List.Sums.{fails_before_first, position_or_len_is}
-use Rattle.record.specs.Lowest.{all_apart}
+use Rattle.record.specs.Searches.{all_apart}
 use Rattle.record.proofs.Choices.{never}
 
 module _ {A : Type 0} (test : A → Bool) (xs : List A) where

@@ -4,4 +4,4 @@ pub mod Legal
 pub mod Places
 pub mod WellFormed
 pub mod With
-pub mod Lowest
+pub mod Searches

@@ -1,6 +1,6 @@
 // The searches over a channel's places and over a table's records: the lowest that passes a test, and whether any two fail one.
 ghost use Rattle.std.specs.Prelude.{◌≡◌, ◌<◌, Bool, length, position, IfSome};
-ghost use Rattle.record.specs.Lowest.{Tests, TestsPairs, all_apart};
+ghost use Rattle.record.specs.Searches.{Tests, TestsPairs, all_apart};
 
 // The index of the first of `xs` that passes, or none.
 // By an index and no iterator: 01 ("Which form to use where") has a search leave early and yield its index by `break`.
@@ -25,7 +25,7 @@ pub fn lowest<T, F: Fn(&T) -> bool>(xs: &[T], passes: F) -> Option<usize>
 }
 
 // Whether each of `xs` is apart from all later ones. It leaves the walk at the first pair that is not.
-#[tactic(auto, unfolding(crate::specs::Lowest::all_apart))]
+#[tactic(auto, unfolding(crate::specs::Searches::all_apart))]
 pub fn all_apart<T, F: Fn(&T, &T) -> bool>(xs: &[T], apart: F) -> bool
     requires { F.IsAlwaysCallable apart }
 

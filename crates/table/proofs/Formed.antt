@@ -3,7 +3,7 @@ use mathlib.Core.Bool.{Bool, true, false, ◌&&◌}
 use mathlib.Core.List.{List, [], ◌∷◌}
 use mathlib.Core.Path.{◌≡◌, refl, ◌∙◌}
 use Rattle.std.specs.List.{list_all}
-use Rattle.record.specs.Lowest.{all_apart}
+use Rattle.record.specs.Searches.{all_apart}
 use Rattle.record.specs.WellFormed.{well_formed}
 use Rattle.record.specs.declared.Record.{Record}
 use Rattle.table.specs.Table.{apart, differs, table_formed}

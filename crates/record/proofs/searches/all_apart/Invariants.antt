@@ -1,6 +1,6 @@
 -- Whatever test of two the closure computes, the elements that are left decide.
 use Rattle.std.proofs.Common.{◌≡◌, Bool, length}
-use Rattle.record.specs.Lowest.{TestsPairs, all_apart}
+use Rattle.record.specs.Searches.{TestsPairs, all_apart}
 use Rattle.record.proofs.searches.all_apart.Given as goal
 
 abbrev pub invariant-loop-x : goal.invariant-loop-x

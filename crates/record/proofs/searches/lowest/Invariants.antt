@@ -1,6 +1,6 @@
 -- Whatever test the closure computes, the elements from the one that is looked at on decide.
 use Rattle.std.proofs.Common.{◌-◌, ◌≤◌, Bool, length}
-use Rattle.record.specs.Lowest.{Tests}
+use Rattle.record.specs.Searches.{Tests}
 use Rattle.record.proofs.Searching.{Left}
 use Rattle.record.proofs.searches.lowest.Given as goal
 
