@@ -79,7 +79,7 @@ pub fn no_deliveries() -> Deliveries
 }
 
 // Where place j of record i lies in the held octets.
-// That i is below eight and j below four are premises, and i and j no types of their own: callers have them of searches and loops, and each definition would take the type off again.
+// i and j are no types of their own: callers have their bounds of searches and loops, and each definition would take the type off again.
 #[tactic(auto, unfolding(crate::specs::Carried::place_begins))]
 fn place_begins(i: usize, j: usize) -> usize
     requires { (i < 8) × (j < 4) }
