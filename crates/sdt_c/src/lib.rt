@@ -35,7 +35,7 @@ pub extern "C" fn sdt_next_message(block: &[u8], cursor: Cursor) -> NextAnswer
     sdt::sdt_next_message(block, cursor)
 }
 
-// Reads the message of this vector and data. Each arm returns by itself: without `return` reading takes 2.09 times the instructions of plain C, over
+// Reads the message of this vector and data. Each arm returns by itself: without `return` reading takes 1.94 times the instructions of plain C, over
 // the limit of 1.3 (bench/run).
 #[unsafe(no_mangle)]
 pub extern "C" fn sdt_read_message(vector: u8, body: &[u8]) -> MessageAnswer
