@@ -74,7 +74,7 @@ pub fn put_event(room: &mut [u8], terms: Terms, event: Event) -> usize
 }
 
 // The reply to a Join.
-// `owner`, `j` and `reciprocal` stay parameters: two of the three decisions leave `reciprocal` aside, so a struct of them would be taken apart at once.
+// Here and in `member`, `owner`, `j` and `reciprocal` stay parameters: two of three decisions leave `reciprocal` aside, so a struct would be taken apart.
 #[tactic(auto, unfolding(crate::specs::Sent::join_reply_of))]
 pub fn put_join_reply(
     room: &mut [u8; ROOM],
