@@ -12,7 +12,7 @@ use borrow.Author.Tests.{ltb-false, le-ltb, eq-eqb, ne_eqb}
 use Rattle.std.specs.Prelude.{slice_get, Some, None, Ok, Err}
 use Rattle.std.proofs.lemmas.Option.{slice_get-get_or, slice_get_past}
 use Rattle.refusal.specs.declared.Refusal.{Refusal}
-use Rattle.refusal.specs.declared.Refusal.TheVariants.{WrongSize}
+use Rattle.refusal.specs.declared.Refusal.TheVariants.{WrongSize, Malformed}
 use Rattle.block.specs.Pdu.{pdu_at}
 use Rattle.block.specs.Block.{most_block, nothing, Parsed, with, parse, asked, read_block}
 use Rattle.block.specs.Cursor.{start, opened_of, open_block, next_message, call_at, Same}
@@ -136,3 +136,11 @@ refusal_tests k false (Ok ms) r = (λ e. cc, λ e. cc)
 pub refusal_agrees : (s : List ℕ) (k : ℕ) (r : Refusal) → (open_block s ≡ Err r) ↔ (read_block s k ≡ Err r)
 unfolding open_block read_block
 refusal_agrees s k r = refusal_tests k (ltb most_block (length s)) (parse s) r
+
+-- in particular as too long
+pub long_agrees : (s : List ℕ) (k : ℕ) → (open_block s ≡ Err WrongSize) ↔ (read_block s k ≡ Err WrongSize)
+long_agrees s k = refusal_agrees s k WrongSize
+
+-- and as malformed, with the same place
+pub malformed_agrees : (s : List ℕ) (k p : ℕ) → (open_block s ≡ Err (Malformed p)) ↔ (read_block s k ≡ Err (Malformed p))
+malformed_agrees s k p = refusal_agrees s k (Malformed p)

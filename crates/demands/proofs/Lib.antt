@@ -4,6 +4,7 @@ pub mod RoundTrip
 pub mod Examples
 pub mod Refusals
 pub mod BlockRefusals
+pub mod WireRefusals
 pub mod OneOutcome
 pub mod RunsOfCalls
 pub mod TableStays

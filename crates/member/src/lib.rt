@@ -18,7 +18,7 @@ use refusal::Refusal;
 use wrapper::{Fate, Reply};
 
 // The sizes of what is lent (01, "Room"), beside `carry`'s.
-pub const REPLY: usize = sending::ROOM;
+pub const REPLY: usize = 64;
 
 pub const CELLS: usize = 512;
 

@@ -55,12 +55,12 @@ accept_taken owner j r k m n f e = e ∙ (rw f (accept_length owner j r k))
 
 -- ---- a new member's reply
 
--- the ACK, of i octets, goes right behind the Join Accept, of n, in a room of m
-pub welcome_put : (owner : Cid) (j : Join) (own : ℕ) (r s t : List ℕ) (at n i k m : ℕ) → 64 ≤ length r → m ≡ length s
+-- the ACK, of i octets, goes right behind the Join Accept, of n
+pub welcome_put : (owner : Cid) (j : Join) (own : ℕ) (r s t : List ℕ) (at n i k : ℕ) → 64 ≤ length r
     → Put (sent_of (acceptance owner j j.reliable own)) n r s
-    → Put (sent_of (message.Ack j.reliable)) i (take (m - at) (drop at s)) t
+    → Put (sent_of (message.Ack j.reliable)) i (take (length s - at) (drop at s)) t
     → at ≡ n → k ≡ n + i
-    → Put (welcome_of owner j own) k r (take at s ++ (t ++ drop (m - at) (drop at s)))
+    → Put (welcome_of owner j own) k r (take at s ++ (t ++ drop (length s - at) (drop at s)))
 unfolding welcome_of
-welcome_put owner j own r s t at n i k m h l a b e f =
-    rw (f, l) (both_put r s t _ _ at n i e (omega (arith, accept_taken owner j j.reliable own _ n refl a.0)) a (rw l at b))
+welcome_put owner j own r s t at n i k h a b e f =
+    rw f (both_put r s t _ _ at n i e (omega (arith, accept_taken owner j j.reliable own _ n refl a.0)) a b)

@@ -46,9 +46,9 @@ behind s zs n =
     let rest : List ℕ = drop (n + length zs) s in
     rw (← length-drop n s, take-length, drop-length, zero-add, drop-drop, append-nil (zs ++ rest), append_assoc (take n s) zs rest)
 
--- of m octets as many are left
-pub rest_length : (s : List ℕ) (n m : ℕ) → m ≡ length s → length (take (m - n) (drop n s)) ≡ m - n
-rest_length s n m l = rw (l, ← length-drop n s, take-length)
+-- as many are left as stand behind
+pub rest_length : (s : List ℕ) (n : ℕ) → length (take (length s - n) (drop n s)) ≡ length s - n
+rest_length s n = rw (← length-drop n s, take-length)
 
 -- octets ys, n of them, are put into r, which is then s, and zs into what is behind them in s, from `at` on, which is then t
 pub both_put : (r s t ys zs : List ℕ) (at n k : ℕ) → at ≡ n → n ≤ length r

@@ -13,9 +13,6 @@ use message::{Cid, Join, Message};
 use record::Terms;
 use wrapper::Reply;
 
-// The octets of a reply room.
-pub const ROOM: usize = 64;
-
 // Writes a message that has a form and fits at the front of a room, and answers how many octets it takes.
 fn put_message(room: &mut [u8], m: Message) -> usize
     requires { (has_form m ≡ true) × (length (sent_of m) ≤ length room.old) }
@@ -25,7 +22,8 @@ fn put_message(room: &mut [u8], m: Message) -> usize
 }
 
 // A Leaving. Its reason is a number, as in `departure` and `departing`: a leave call may ask for any octet, and refusal 10 is decided before.
-// Here and in `put_event` the room is a slice: of a part of the octets of all cells, taken as an array, the proof of what is written did not close.
+// The room is a slice that is long enough, here and in what follows, and no array of 64: `put_join_reply` took any such room before, and an array
+// would ask more of its callers.
 pub fn put_leaving(room: &mut [u8], terms: Terms, reliable: Reliable, reason: u8) -> usize
     requires { 64 ≤ length room.old }
     ensures { Put (sent_of (departure terms reliable reason)) result room.old room.new }
@@ -34,7 +32,8 @@ pub fn put_leaving(room: &mut [u8], terms: Terms, reliable: Reliable, reason: u8
 }
 
 // A new member's Join Accept, followed by an ACK of the Join's reliable number.
-fn put_welcome(room: &mut [u8; ROOM], owner: Cid, j: Join, reciprocal: u16) -> usize
+fn put_welcome(room: &mut [u8], owner: Cid, j: Join, reciprocal: u16) -> usize
+    requires { 64 ≤ length room.old }
     ensures { Put (welcome_of owner j reciprocal) result room.old room.new }
 {
     let accept = joining::acceptance_of(owner, j, j.reliable, reciprocal);
@@ -45,7 +44,8 @@ fn put_welcome(room: &mut [u8; ROOM], owner: Cid, j: Join, reciprocal: u16) -> u
 
 // What a wrapper's step replies.
 #[tactic(auto, using(octets::proofs::Writes::splice_nothing), unfolding(crate::specs::Sent::reply_of))]
-pub fn put_reply(room: &mut [u8; ROOM], terms: Terms, reply: Reply) -> usize
+pub fn put_reply(room: &mut [u8], terms: Terms, reply: Reply) -> usize
+    requires { 64 ≤ length room.old }
     ensures { Put (reply_of terms reply) result room.old room.new }
 {
     match reply {
@@ -77,12 +77,13 @@ pub fn put_event(room: &mut [u8], terms: Terms, event: Event) -> usize
 // Here and in `member`, `owner`, `j` and `reciprocal` stay parameters: two of three decisions leave `reciprocal` aside, so a struct would be taken apart.
 #[tactic(auto, unfolding(crate::specs::Sent::join_reply_of))]
 pub fn put_join_reply(
-    room: &mut [u8; ROOM],
+    room: &mut [u8],
     owner: Cid,
     j: Join,
     reciprocal: u16,
     decision: Decision,
 ) -> usize
+    requires { 64 ≤ length room.old }
     ensures { Put (join_reply_of owner j reciprocal decision) result room.old room.new }
 {
     match decision {

@@ -15,7 +15,7 @@ pub slice_bounds-put_message-start : goal.slice_bounds-put_message-start
 slice_bounds-put_message-start c = omega (arith, accept_taken _ _ _ _ _ _ c.acceptance_of-accept.ensures c.put_message-accepted.ensures.0)
 
 pub put_message-acked-requires : goal.put_message-acked-requires
-put_message-acked-requires c = ack_fits _ _ (rw (rest_length c.put_message-accepted.new.room c.put_message-accepted.result 64 (search rules)) (omega (arith, accept_taken _ _ _ _ _ _ c.acceptance_of-accept.ensures c.put_message-accepted.ensures.0)))
+put_message-acked-requires c = ack_fits _ _ (rw rest_length (omega (arith, accept_taken _ _ _ _ _ _ c.acceptance_of-accept.ensures c.put_message-accepted.ensures.0)))
 
 pub overflow_add-result : goal.overflow_add-result
 overflow_add-result c = record { fits = omega (arith, accept_taken _ _ _ _ _ _ c.acceptance_of-accept.ensures c.put_message-accepted.ensures.0, ack_taken _ _ c.put_message-acked.ensures.0) }
@@ -23,4 +23,4 @@ overflow_add-result c = record { fits = omega (arith, accept_taken _ _ _ _ _ _ c
 pub returns : goal.returns
 returns c =
     let accepted = same_put _ _ _ _ _ c.put_message-accepted.ensures c.acceptance_of-accept.ensures in
-    welcome_put _ _ _ _ _ _ _ _ _ _ 64 (search rules) (search rules) accepted c.put_message-acked.ensures (search) (search)
+    welcome_put _ _ _ _ _ _ _ _ _ _ c.requires accepted c.put_message-acked.ensures (search) (search)
