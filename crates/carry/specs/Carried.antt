@@ -29,24 +29,23 @@ pub record Delivered : Type 0 where
   pub delivery : Delivery
   pub contents : List ℕ
 
+-- what is said of a wrapper that is delivered at once
+abbrev pub itself : Arrived → Delivery
+itself w = record { reliably = w.reliably; total = w.total; reliable = w.reliable; len = w.len }
+
+-- and of one that a place held. Only reliable ones are held; the place, though free by then, still says its numbers and length
+abbrev pub of_held : Place → Delivery
+of_held p = record { reliably = true; total = p.total; reliable = p.reliable; len = p.len }
+
 -- the wrapper itself, if it is delivered at once
 abbrev pub at_once : Fate → Arrived → List ℕ → List Delivered
-at_once fate.Delivered w c =
-    record {
-      delivery = record { reliably = w.reliably; total = w.total; reliable = w.reliable; len = w.len };
-      contents = c;
-    }
-    ∷ []
+at_once fate.Delivered w c = record { delivery = itself w; contents = c } ∷ []
 at_once (fate.Held j) w c = []
 at_once fate.Dropped w c = []
 
--- the wrapper that place j of record i held. Only reliable ones are held; the place, though free by then, still says its numbers and length
+-- the wrapper that place j of record i held
 abbrev pub from_place : List ℕ → ℕ → ℕ → Place → Delivered
-from_place held i j p =
-    record {
-      delivery = record { reliably = true; total = p.total; reliable = p.reliable; len = p.len };
-      contents = part held (place_begins i j) p.len;
-    }
+from_place held i j p = record { delivery = of_held p; contents = part held (place_begins i j) p.len }
 
 -- the held ones of record i that step 4 delivers, in its order
 abbrev pub from_places : List ℕ → ℕ → List Place → List ℕ → List Delivered

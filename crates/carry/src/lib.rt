@@ -3,12 +3,13 @@
 
 ghost use Rattle.std.specs.Prelude.{◌≡◌, [], ◌∷◌, ℕ, ◌+◌, ◌*◌, ◌<◌, ◌≤◌, length, take};
 ghost use Rattle.record.specs.WellFormed.{most_contents};
-ghost use Rattle.carry.specs.Carried.{place_begins, held_after, at_once, from_place, from_places, delivered_by, deliver_from, no_deliveries, one_more, listed};
+ghost use Rattle.carry.specs.Carried.{place_begins, held_after, at_once, from_place, from_places, delivered_by, deliver_from, no_deliveries, one_more, itself, of_held, listed};
 ghost use Rattle.carry.specs.Fits.{Fits};
 
 use counter::{Reliable, Total};
 use message::MOST_CONTENTS;
 use octets::copy_into;
+use record::Place;
 use wrapper::{Arrived, Fate, Plan};
 
 // The octets that are lent: four places of contents for each of eight records, and five cells for deliveries (01, "Room").
@@ -23,6 +24,33 @@ pub struct Delivery {
     pub total: Total,
     pub reliable: Reliable,
     pub len: u16,
+}
+
+impl From<Arrived> for Delivery {
+    ghost from_gives = { λ w d. d ≡ itself w };
+
+    fn from(w: Arrived) -> Delivery {
+        Delivery {
+            reliably: w.reliably,
+            total: w.total,
+            reliable: w.reliable,
+            len: w.len,
+        }
+    }
+}
+
+// Only reliable wrappers are held.
+impl From<Place> for Delivery {
+    ghost from_gives = { λ p d. d ≡ of_held p };
+
+    fn from(p: Place) -> Delivery {
+        Delivery {
+            reliably: true,
+            total: p.total,
+            reliable: p.reliable,
+            len: p.len,
+        }
+    }
 }
 
 // The first `count` of `each` are what was delivered, in order: an array with its count beside it, since the library has no heap.
@@ -70,12 +98,10 @@ fn deliver_one(
     ensures { (result ≡ one_more before (record { delivery = delivery; contents = contents.now })) × (deliver.new ≡ deliver_from before.count (record { delivery = delivery; contents = contents.now } ∷ []) deliver.old) }
 {
     copy_into(deliver, before.count * MOST_CONTENTS, contents);
-    let mut each = before.each;
-    each[before.count] = delivery;
-    Deliveries {
-        each,
-        count: before.count + 1,
-    }
+    let mut after = before;
+    after.each[before.count] = delivery;
+    after.count += 1;
+    after
 }
 
 // The wrapper itself: it is the first delivery, its contents are copied into a place of record i, or it is dropped.
@@ -92,15 +118,7 @@ fn carry_itself(
     ensures { (result ≡ listed no_deliveries (at_once fate w contents.now)) × (held.new ≡ held_after i fate contents.now held.old) × (deliver.new ≡ deliver_from 0 (at_once fate w contents.now) deliver.old) }
 {
     match fate {
-        Fate::Delivered => {
-            let itself = Delivery {
-                reliably: w.reliably,
-                total: w.total,
-                reliable: w.reliable,
-                len: w.len,
-            };
-            deliver_one(deliver, no_deliveries(), itself, contents)
-        }
+        Fate::Delivered => { deliver_one(deliver, no_deliveries(), w.into(), contents) }
         Fate::Held(j) => {
             copy_into(held, place_begins(i, j), contents);
             no_deliveries()
@@ -124,13 +142,8 @@ fn deliver_held(
     for &j in &plan.order[..plan.count] {
         let p = plan.after.places[j];
         let begin = place_begins(i, j);
-        let released = Delivery {
-            reliably: true,
-            total: p.total,
-            reliable: p.reliable,
-            len: p.len,
-        };
-        all = deliver_one(deliver, all, released, &held[begin..begin + p.len as usize]);
+        let contents = &held[begin..begin + usize::from(p.len)];
+        all = deliver_one(deliver, all, p.into(), contents);
     }
     all
 }

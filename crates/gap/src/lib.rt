@@ -48,10 +48,10 @@ impl Elapsed {
 pub fn standoff_time(reliable: Reliable, terms: Terms) -> u32
     ensures { (result ≡ standoff reliable.0 terms.mid terms.modulus terms.holdoff terms.maxwait) × (result ≤ terms.maxwait) }
 {
-    let sum = (reliable.0 as u64) + (terms.mid as u64);
-    let rest = sum.checked_rem(terms.modulus as u64).unwrap_or(sum);
-    let time = rest * (terms.holdoff as u64);
-    time.min(terms.maxwait as u64) as u32
+    let sum = u64::from(reliable.0) + u64::from(terms.mid);
+    let rest = sum.checked_rem(u64::from(terms.modulus)).unwrap_or(sum);
+    let time = rest * u64::from(terms.holdoff);
+    time.min(u64::from(terms.maxwait)) as u32
 }
 
 // The time of a record's standoff.
@@ -163,7 +163,7 @@ pub fn elapsed_step(r: Record, ms: u32) -> Elapsed
         idle: r.idle + ms,
         ..r
     };
-    if (r.terms.expiry as u32) * 1000 <= later.idle {
+    if r.terms.expiry_time() <= later.idle {
         return Elapsed {
             after: later.freed(),
             event: Event::Leaving(Reason::ChannelExpired, r.reliable),

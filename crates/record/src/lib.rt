@@ -4,7 +4,7 @@
 mod reasons;
 mod searches;
 
-ghost use Rattle.std.specs.Prelude.{◌≡◌};
+ghost use Rattle.std.specs.Prelude.{◌≡◌, ◌*◌};
 ghost use Rattle.record.specs.Profile.{nak_timeout, max_retries};
 ghost use Rattle.record.specs.Legal.{legal_names, legal_parameters};
 ghost use Rattle.record.specs.With.{freed, with_gap, free_place};
@@ -81,7 +81,7 @@ pub fn max_retries() -> u8
 pub fn nak_timeout(expiry: u8) -> u32
     ensures { result ≡ nak_timeout expiry }
 {
-    (expiry as u32) * NAK_TIMEOUT_FACTOR
+    u32::from(expiry) * NAK_TIMEOUT_FACTOR
 }
 
 // Channel and MID as a Join may have them.
@@ -109,7 +109,7 @@ impl Gap {
         match self {
             Gap::Quiet => shut,
             Gap::Standoff { left, count } => {
-                !shut && count < NAK_MAX_RETRIES && left <= (terms.maxwait as u32)
+                !shut && count < NAK_MAX_RETRIES && left <= u32::from(terms.maxwait)
             }
             Gap::Waiting { left, count } => {
                 !shut && 1 <= count && count <= NAK_MAX_RETRIES && left <= nak_timeout(terms.expiry)
@@ -128,7 +128,7 @@ impl Place {
             return true;
         }
         let ahead = reliable.distance_to(self.reliable);
-        2 <= ahead && ahead <= reliable.distance_to(known) && (self.len as usize) <= MOST_CONTENTS
+        2 <= ahead && ahead <= reliable.distance_to(known) && usize::from(self.len) <= MOST_CONTENTS
     }
 
     // Two places do not hold the same reliable number.
@@ -175,6 +175,13 @@ impl Terms {
             && legal_parameters(self.modulus, self.expiry)
             && self.reciprocal != 0
     }
+
+    // The expiry in milliseconds: a channel that was idle for so long is left.
+    pub fn expiry_time(self) -> u32
+        ensures { result ≡ self.expiry * 1000 }
+    {
+        u32::from(self.expiry) * 1000
+    }
 }
 
 impl Record {
@@ -197,7 +204,7 @@ impl Record {
                 && held_all_right(self.reliable, self.known, &self.places)
                 && held_apart(&self.places)
                 && self.gap.is_right(self.is_closed(), self.terms)
-                && self.idle < (self.terms.expiry as u32) * 1000)
+                && self.idle < self.terms.expiry_time())
     }
 
     // The record with another gap.

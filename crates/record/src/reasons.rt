@@ -77,8 +77,5 @@ impl TryFrom<u8> for Reason {
 pub fn is_leaving_reason(reason: u8) -> bool
     ensures { result ≡ leaving_reason reason }
 {
-    match Reason::try_from(reason) {
-        Ok(reason) => reason.is_of_leaving(),
-        Err(NoReason) => false,
-    }
+    Reason::try_from(reason).is_ok_and(|r| r.is_of_leaving())
 }

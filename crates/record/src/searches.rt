@@ -2,7 +2,8 @@
 ghost use Rattle.std.specs.Prelude.{◌≡◌, ◌<◌, Bool, length, position, IfSome};
 ghost use Rattle.record.specs.Lowest.{Tests, TestsPairs, all_apart};
 
-// The index of the first of `xs` that passes, or none. It leaves the walk at the first one.
+// The index of the first of `xs` that passes, or none.
+// By an index and no iterator: 01 ("Which form to use where") has a search leave early and yield its index by `break`.
 pub fn lowest<T, F: Fn(&T) -> bool>(xs: &[T], passes: F) -> Option<usize>
     requires { F.IsAlwaysCallable passes }
 
@@ -23,8 +24,8 @@ pub fn lowest<T, F: Fn(&T) -> bool>(xs: &[T], passes: F) -> Option<usize>
     Some(at)
 }
 
-#[tactic(auto, unfolding(crate::specs::Lowest::all_apart))]
 // Whether each of `xs` is apart from all later ones. It leaves the walk at the first pair that is not.
+#[tactic(auto, unfolding(crate::specs::Lowest::all_apart))]
 pub fn all_apart<T, F: Fn(&T, &T) -> bool>(xs: &[T], apart: F) -> bool
     requires { F.IsAlwaysCallable apart }
 

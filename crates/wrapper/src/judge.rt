@@ -39,9 +39,10 @@ fn farther_of(reliable: Reliable, known: Reliable, n: Reliable) -> Reliable
     ensures { result ≡ farther reliable known n }
 {
     if reliable.distance_to(known) < reliable.distance_to(n) {
-        return n;
+        n
+    } else {
+        known
     }
-    known
 }
 
 // Step 2.

@@ -21,27 +21,17 @@ fn release_at(s: Released, i: usize) -> Released
     ensures { result ≡ release_at s i }
 {
     let p = s.after.places[i];
-    let mut after = s.after;
-    after.places[i] = p.freed();
+    let mut next = s;
+    next.after.places[i] = p.freed();
     if judge(s.after, true, p.total, p.reliable).is_err() {
-        return Released {
-            after,
-            thrown: s.thrown + 1,
-            ..s
-        };
+        next.thrown += 1;
+        return next;
     }
-    let mut order = s.order;
-    order[s.count] = i;
-    Released {
-        after: Record {
-            total: p.total,
-            reliable: p.reliable,
-            ..after
-        },
-        order,
-        count: s.count + 1,
-        ..s
-    }
+    next.after.total = p.total;
+    next.after.reliable = p.reliable;
+    next.order[s.count] = i;
+    next.count += 1;
+    next
 }
 
 // Step 4: the lowest of those that are next, as long as there is one.

@@ -14,8 +14,9 @@ loop-j-preserved c =
     let order = take a.plan.count a.plan.order in
     let more : l.j-index < length order = search rules in
     let this = this_is a.held.now a.i ps order (get_or order l.j-index 0) _ c.place_begins-begin.ensures.0 in
-    let grown = d.ensures.0 ∙ ap (one_more l.all) this in
-    let cell = d.ensures.1 ∙ ap (λ (x : Delivered). deliver_from l.all.count (x ∷ []) l.deliver) this in
+    let told = rw (c.into.ensures, c.from.ensures) at d.ensures in
+    let grown = told.0 ∙ ap (one_more l.all) this in
+    let cell = told.1 ∙ ap (λ (x : Delivered). deliver_from l.all.count (x ∷ []) l.deliver) this in
     let count : d.result.count ≡ l.all.count + 1 = ap (λ (x : Deliveries). x.count) grown in (
       omega (arith, count, l.invariant.0),
       listed_turn a.held.now a.i ps order l.j-index more l.all d.result grown ∙ l.invariant.1,

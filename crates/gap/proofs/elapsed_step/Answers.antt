@@ -1,5 +1,5 @@
 -- A well-formed record was idle for less than its expiry, and a record that does not expire is well formed when its phase is looked at.
-use Rattle.std.proofs.Common.{◌≡◌, ◌+◌, true, arith}
+use Rattle.std.proofs.Common.{rules, ◌≡◌, ◌+◌, true, arith}
 use Rattle.std.proofs.lemmas.Bool.{not-false}
 use Rattle.record.proofs.Formed.{formed}
 use Rattle.gap.proofs.Stays.{idle_kept}
@@ -12,4 +12,4 @@ overflow_add-later c =
 
 pub phase_step-requires : goal.phase_step-requires
 phase_step-requires c =
-    (not-false _ c.if-not-r.false, idle_kept c.args.r (c.args.r.idle + c.args.ms) c.requires.0 c.if-r-later.false)
+    (not-false _ c.if-not-r.false, idle_kept c.args.r (c.args.r.idle + c.args.ms) c.requires.0 (search rules))
