@@ -69,7 +69,7 @@ fn join_asks(ours: Cid, j: Join) -> Result<Asked, Refusal>
 }
 
 // Refusals 4 to 7. An ACK is not a base message.
-// `sender` and `ours` go to different calls, `vector` and `body` only to the reader: a struct of either pair would be made to be taken apart at once.
+// Here and in `member`, `sender` and `ours`, `vector` and `body` stay parameters: a struct of a pair would be made in `message` to be taken apart here.
 #[tactic(auto, using(crate::proofs::Wrappers::lengths), unfolding(crate::specs::Asking::asked_of))]
 pub fn asks(
     table: [Record; 8],

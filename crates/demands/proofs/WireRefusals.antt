@@ -1,13 +1,13 @@
 -- Which refusals the calls of the wire can give (01, "Refusal numbers": reading a block checks 1, 11; reading a message checks 4 alone; writing one checks 4, 1,
 -- 7): no other value of `Refusal` comes of them. Assumes nothing.
 use Prim.Native.Nat.{ℕ}
-use mathlib.Core.Path.{◌≡◌, refl}
+use mathlib.Core.Path.{◌≡◌}
 use mathlib.Core.Logic.{◌⊎◌, inl, inr}
 use mathlib.Core.Bool.{Bool, true, false, cond, not}
 use mathlib.Core.List.{List}
 use lib.ListN.{length}
 use lib.Dec.{ltb}
-use Rattle.std.specs.Prelude.{Result, Ok, Err}
+use Rattle.std.specs.Prelude.{Ok, Err}
 use Rattle.refusal.specs.declared.Refusal.{Refusal}
 use Rattle.refusal.specs.declared.Refusal.TheVariants.{WrongSize, NoForm, ContentsOver, Malformed}
 use Rattle.block.specs.Block.{most_block, Parsed, parse, asked, read_block}

@@ -11,8 +11,8 @@ use crate::{CELLS, Cell, Passed};
 use gap::Event;
 use record::Record;
 
-// The octets of a cell.
-const CELL: usize = sending::ROOM;
+// The octets of one of the eight cells.
+const CELL: usize = CELLS / 8;
 
 const NO_CELL: Cell = Cell {
     event: Event::Nothing,

@@ -24,6 +24,7 @@ fn depart(table: [Record; 8], reply: &mut [u8; REPLY], at: usize, reason: u8) ->
 }
 
 // Refusals 6 and 10 of a leave call.
+// The reason stays a number: any octet may be asked for, `leave_for` judges it (refusal 10), and `departing` takes it as it came.
 pub fn take_leave(
     table: [Record; 8],
     reply: &mut [u8; REPLY],

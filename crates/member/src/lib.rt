@@ -44,6 +44,7 @@ pub enum Given {
 }
 
 // The answer of a message call. `reply` octets stand in the reply room.
+// Their number and no slice, here and in `Cell` and `Left`: a slice would keep the room lent as long as the answer lives.
 #[derive(Clone, Copy)]
 pub struct Messaged {
     pub table: [Record; 8],

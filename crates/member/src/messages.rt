@@ -113,6 +113,7 @@ fn carried(
 }
 
 // The step of the record `at` by a wrapper: refused as 8 or 9, or carried out.
+// `w.len` is the length of the contents once more: `wrapper_step` is in numbers alone, and has `w` without them.
 // `well_formed`, here and in `pass_one`, is no invariant of Record: refusal 2 is given for a table whose records are not well formed.
 fn take_wrapper(
     table: [Record; 8],
