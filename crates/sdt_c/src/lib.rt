@@ -1,7 +1,7 @@
 // What C links: each call of `sdt` under its own name, with the same promise. include/sdt.h says in C what these calls are. The three on blocks only
 // pass on, since C's names are exported here and nowhere below. A message is read and written by a call for its kind alone: the compiler then
 // makes of each what that kind needs, and carries no fields of the others through it. With one call for all kinds, reading takes 2.25 times the
-// instructions of plain C and writing 2.07, over the limits of 1.3 and 2 (bench/run).
+// instructions of plain C and writing 2.07, over the limits of 1.3 and 1.5 (bench/run).
 #![tactic(auto)]
 
 ghost use Rattle.std.specs.Prelude.{◌≡◌};
