@@ -108,6 +108,7 @@ fn deliver_one(
 }
 
 // The wrapper itself: it is the first delivery, its contents are copied into a place of record i, or it is dropped.
+// Six parameters, here and in `carry_out`: a struct of the two rooms would owe a clause for each `&mut` in it (the new form is no plainer).
 #[tactic(auto, unfolding(crate::specs::Carried::listed, crate::specs::Carried::deliver_from))]
 fn carry_itself(
     held: &mut [u8; HELD],

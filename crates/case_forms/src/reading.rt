@@ -135,6 +135,7 @@ fn host(word: &[u8]) -> Option<u32> {
     }
 }
 
+// An impl for each width, since rt ci refuses an impl that a macro of the repository writes.
 impl Value for u8 {
     fn read(r: &mut Reader<'_>) -> Result<u8, Misread> {
         Ok(r.number(u8::MAX.into())? as u8)

@@ -139,6 +139,7 @@ fn in_wait(r: Record, left: u32, count: u8) -> Elapsed
 }
 
 // The phase's time falls by `ms`, and the phase makes one move if none is left.
+// `well_formed`, here and below, is a premise and no invariant of `Record`: refusal 2 judges records that are not. `ms ≤ 1000` is refusal 3's.
 #[tactic(auto, unfolding(crate::specs::Elapsed::phased))]
 fn phase_step(r: Record, ms: u32) -> Elapsed
     requires { (r.used ≡ true) × (well_formed r ≡ true) }

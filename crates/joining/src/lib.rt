@@ -37,6 +37,7 @@ pub enum Decision {
     Make(Parameters),
 }
 
+// N is the top bit of the flags, taken by % and / here and in `new_record`: a mask for & would be one name more (no plainer).
 #[tactic(auto, unfolding(crate::specs::Joining::legal_block))]
 fn legal_block(p: Parameters) -> bool
     ensures { result ≡ legal_block p }

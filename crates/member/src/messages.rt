@@ -34,7 +34,7 @@ fn joined_at(decision: Decision, known: Option<usize>, free: Option<usize>) -> O
     }
 }
 
-// The table after a Join: a new record stands in the lowest free one.
+// The table after a Join: a new record stands in the lowest free one. Its six parameters are those of the definition, `table_after`.
 fn table_after(
     table: [Record; 8],
     sender: Cid,

@@ -6,7 +6,8 @@ ghost use Rattle.octets.specs.Octets.{octets, number_at, splice};
 
 // A number that a layout has as a field: the octets that it takes there, and reading and writing them. That the octets are there, `at` and the
 // width within the slice, stands at each function that reads or writes: `at` is another place in each, and a type for a slice with a place in it
-// would promise after each write that it is still the same slice (the new form is no plainer).
+// would promise after each write that it is still the same slice (the new form is no plainer). Each width has its impl written out, since rt ci refuses
+// an impl that a macro of the repository writes.
 pub trait Field: Copy {
     ghost width: { ℕ };
 

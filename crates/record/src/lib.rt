@@ -26,7 +26,7 @@ pub enum Gap {
 // A place for a held wrapper: its numbers and the length of its contents.
 #[derive(Clone, Copy, Debug, PartialEq, Eq)]
 pub struct Place {
-    // Beside the rest, and no `Option` of it: a free place keeps what it held (01, "Room"; `free_place`).
+    // Beside the rest, and no `Option` of it: a free place keeps what it held (`free_place`).
     pub used: bool,
     pub total: Total,
     pub reliable: Reliable,

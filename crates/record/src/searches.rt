@@ -25,6 +25,7 @@ pub fn lowest<T, F: Fn(&T) -> bool>(xs: &[T], passes: F) -> Option<usize>
 }
 
 // Whether each of `xs` is apart from all later ones. It leaves the walk at the first pair that is not.
+// By `split_first` and no `for`: each turn needs what lies behind its element (the new form is no plainer).
 #[tactic(auto, unfolding(crate::specs::Searches::all_apart))]
 pub fn all_apart<T, F: Fn(&T, &T) -> bool>(xs: &[T], apart: F) -> bool
     requires { F.IsAlwaysCallable apart }

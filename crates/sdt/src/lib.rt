@@ -152,7 +152,7 @@ pub fn sdt_open_block(block: &[u8]) -> OpenAnswer
     OpenAnswer::from(block::open_block(block))
 }
 
-// Reads the message behind a cursor.
+// Reads the message behind a cursor. The answer is no From of the library's: it has the cursor that was given where there is no message.
 #[tactic(auto, unfolding(crate::specs::Blocks::next_answer))]
 pub fn sdt_next_message(block: &[u8], cursor: Cursor) -> NextAnswer
     ensures { SdtNextMessageAllows block.now cursor result }

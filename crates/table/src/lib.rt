@@ -9,7 +9,7 @@ use counter::{Reliable, Total};
 use message::Cid;
 use record::{Gap, Place, Record, Terms};
 
-// A free record with every field 0. Written out: for this one value a derived default on each of its six types, in three crates, is no plainer.
+// A free record with every field 0. Written out: for this one value a derived default on it and each of its six types, in three crates, is no plainer.
 const FREE: Record = Record {
     used: false,
     terms: Terms {

@@ -15,6 +15,7 @@ fn is_next(reliable: Reliable, p: Place) -> bool
 }
 
 // Delivers the wrapper of place `i`, or throws it out if it is judged old; its place is free.
+// `i < 4` is a premise and no type: `lowest` gives it, and the definition takes a number.
 #[tactic(auto, unfolding(crate::specs::Release::release_at))]
 fn release_at(s: Released, i: usize) -> Released
     requires { (i < 4) × (s.count < 4) × (s.thrown < 4) }
