@@ -41,7 +41,13 @@ impl Rooms {
     // What a call that was taken gave, but for its records.
     fn say_taken(&mut self, said: &mut String, sent: &Messaged) -> Result<(), AllocError> {
         said.push_str("= taken\n")?;
-        for (cell, delivery) in sent.deliveries.each.iter().take(sent.deliveries.count).enumerate() {
+        for (cell, delivery) in sent
+            .deliveries
+            .each
+            .iter()
+            .take(sent.deliveries.count)
+            .enumerate()
+        {
             self.say_delivery(said, cell, *delivery)?;
         }
         if let Given::Wrapped { fate, thrown, .. } = sent.given {
