@@ -32,12 +32,10 @@ use Rattle.message.specs.declared.Message.TheVariants as message
 use Rattle.message.specs.declared.Parameters.{Parameters}
 use Rattle.record.specs.Legal.{legal_names, legal_parameters}
 use Rattle.record.specs.Profile.{min_expiry}
-use Rattle.record.specs.Reasons.{number_of, leaving_reason}
+use Rattle.record.specs.Reasons.{lost_sequence, leaving_reason}
 use Rattle.record.specs.WellFormed.{closed}
 use Rattle.record.specs.declared.Gap.{Gap}
 use Rattle.record.specs.declared.Record.{Record}
-use Rattle.record.specs.declared.reasons.Reason.{Reason}
-use Rattle.record.specs.declared.reasons.Reason.TheVariants as reason
 use Rattle.record.specs.declared.Terms.{Terms}
 use Rattle.gap.specs.Elapsed.{in_standoff, phased, elapsed_of}
 use Rattle.gap.specs.Range.{nearer, nearest, end_by, nak_first, nak_last}
@@ -166,30 +164,25 @@ welcome_read owner j n f o =
     two_read (acceptance owner j j.reliable n) (message.Ack j.reliable) (asked_fits owner j j.reliable f f.reliable, o) refl
     f.reliable refl
 
--- the number of a reason is an octet
-reason_octet : (x : Reason) → Octets 1 (number_of x)
-reason_octet reason.Nonspecific = lit< tt
-reason_octet other = lit< tt
-
 -- the reply of a wrapper's step
 pub reply_read : (t : Terms) (x : Reply) → FitTerms t → FitReply x → ReadFrom (reply_of t x) 0 (reply_means t x)
 unfolding reply_of
 reply_read t reply.Nothing f g = none_read
 reply_read t (reply.Ack r) f g = ack_read r g
-reply_read t (reply.Leaving reason r) f g = departure_read t r (number_of reason) f g (reason_octet reason)
+reply_read t (reply.Leaving reason r) f g = departure_read t r reason f g.1 g.0
 
 -- what elapsed time sends
 pub event_read : (t : Terms) (x : Event) → FitTerms t → FitEvent x → ReadFrom (event_of t x) 0 (event_means t x)
 unfolding event_of
 event_read t event.Nothing f g = none_read
 event_read t (event.Nak r first last outbound) f g = missing_read t r first last f g.0 g.1 g.2
-event_read t (event.Leaving reason r) f g = departure_read t r (number_of reason) f g (reason_octet reason)
+event_read t (event.Leaving reason r) f g = departure_read t r reason f g.1 g.0
 
 -- the reply to a Join, where n is the caller's reciprocal number
 pub join_reply_read : (owner : Cid) (j : Join) (n : ℕ) (x : Decision) → FitAsked owner j → Octets 2 n → FitDecision x
     → ReadFrom (join_reply_of owner j n x) 0 (join_means owner j n x)
 unfolding join_reply_of
-join_reply_read owner j n (decision.Refuse reason) f o g = join_refuse_read owner j (number_of reason) f (reason_octet reason)
+join_reply_read owner j n (decision.Refuse reason) f o g = join_refuse_read owner j reason f g
 join_reply_read owner j n (decision.Again r reciprocal) f o g = acceptance_read owner j r reciprocal f g.0 g.1
 join_reply_read owner j n (decision.Make p) f o g = welcome_read owner j n f o
 
@@ -199,7 +192,7 @@ join_reply_read owner j n (decision.Make p) f o g = welcome_read owner j n f o
 abbrev Says : Record → Reply → Type 0
 Says r reply.Nothing = Unit {0}
 Says r (reply.Ack n) = n ≡ r.reliable
-Says r (reply.Leaving reason n) = n ≡ r.reliable
+Says r (reply.Leaving reason n) = (reason ≡ lost_sequence) × (n ≡ r.reliable)
 
 acknowledged_says : (r : Record) (w : Arrived) → Says (acknowledged r w).after (acknowledged r w).reply
 unfolding acknowledged
@@ -208,7 +201,7 @@ acknowledged_says r w = either (λ (s : Settled). Says s.after s.reply) (asked r
 settled_says : (r : Record) (w : Arrived) → Says (settled r w).after (settled r w).reply
 unfolding settled gapped
 settled_says r w =
-    either Settles (closed r) _ _ (acknowledged_says _ w) (either Settles (isLost r w.oldest) _ _ refl (acknowledged_says _ w))
+    either Settles (closed r) _ _ (acknowledged_says _ w) (either Settles (isLost r w.oldest) _ _ (refl, refl) (acknowledged_says _ w))
   where
     Settles : Option Record → Type 0
     Settles g = Says (settled_by g r w).after (settled_by g r w).reply
@@ -220,7 +213,7 @@ step_says r w = settled_says (released (placed (heard r w.reliable) w).after).af
 says_fits : (r : Record) (x : Reply) → r.reliable.0 < turn → Says r x → FitReply x
 says_fits r reply.Nothing h q = tt
 says_fits r (reply.Ack n) h q = rw q h
-says_fits r (reply.Leaving reason n) h q = rw q h
+says_fits r (reply.Leaving reason n) h q = (rw q.0 (lit< tt), rw q.1 h)
 
 step_fits : (r : Record) (w : Arrived) → Sound r → Both w.total w.reliable → FitReply (taken r w).reply
 step_fits r w s b = says_fits (taken r w).after (taken r w).reply (taken_sound r w s b).reliable (step_says r w)
@@ -249,8 +242,8 @@ elapsed_fits r ms s = by (moves r ms)
 
     by : {o : Elapsed} → Move r ms o → FitEvent o.event
     by (stands u) = tt
-    by (expires u x) = s.reliable
-    by (lost u x g l c) = s.reliable
+    by (expires u x) = (lit< tt, s.reliable)
+    by (lost u x g l c) = (lit< tt, s.reliable)
     by (goes_on u x m) = on m
 
 -- the octets that elapsed time sends are read as its event
@@ -280,16 +273,16 @@ leave_read r reason s f e = departure_read r.terms r.reliable reason f s.reliabl
 
 decided_fits : (j : Join) (e : Option Existing) (n : ℕ) (free : Bool) → FitExisting e → FitDecision (decided j e n free)
 unfolding decided decide_new
-decided_fits j e n free f = either FitDecision (legal j) _ _ (by j.address e f) tt
+decided_fits j e n free f = either FitDecision (legal j) _ _ (by j.address e f) (lit< tt)
   where
     for : (e : Option Existing) (p : Parameters) → FitExisting e → FitDecision (decide_for e j.mid p n free)
-    for (Some x) p g = either FitDecision (eqb x.mid j.mid) _ _ g tt
-    for None p g = either FitDecision (eqb n 0) _ _ tt (either FitDecision free _ _ tt tt)
+    for (Some x) p g = either FitDecision (eqb x.mid j.mid) _ _ g (lit< tt)
+    for None p g = either FitDecision (eqb n 0) _ _ (lit< tt) (either FitDecision free _ _ tt (lit< tt))
 
     by : (a : Address) (e : Option Existing) → FitExisting e → FitDecision (decide_at a e j.mid n free)
     by (address.Null p) e g = for e p g
     by (address.Ipv4 x p) e g = for e p g
-    by (address.Other t) e g = tt
+    by (address.Other t) e g = lit< tt
 
 -- the octets of the reply to a Join are read as what was decided
 pub decided_read : (owner : Cid) (j : Join) (e : Option Existing) (n : ℕ) (free : Bool) → FitAsked owner j → Octets 2 n → FitExisting e

@@ -10,7 +10,7 @@ use Rattle.message.specs.declared.Message.{Message}
 use Rattle.message.specs.declared.Message.TheVariants as message
 use Rattle.record.specs.declared.Gap.TheVariants as gap
 use Rattle.record.specs.declared.Record.{Record}
-use Rattle.record.specs.declared.reasons.Reason.TheVariants as reason
+use Rattle.record.specs.Reasons.{lost_sequence}
 use Rattle.refusal.specs.Numbers.{number_of}
 use Rattle.refusal.specs.declared.Refusal.{Refusal}
 use Rattle.refusal.specs.declared.Refusal.TheVariants as refusal
@@ -131,7 +131,7 @@ table =
     ∷ record { p = 7; given = reads (112 ∷ 7 ∷ 14 ∷ 0 ∷ 0 ∷ 0 ∷ 41 ∷ []); gives = read_as (Ok (message.Ack (reliable 41))) }
     ∷ record { p = 8; given = arrives 20 10 10 (wrapper_of false 25 10 10); gives = step 0 fate.Delivered 10 reply.Nothing }
     ∷ record { p = 9; given = arrives 20 10 10 (wrapper_of true 24 13 11); gives = step 0 (fate.Held 0) 13 reply.Nothing }
-    ∷ record { p = 10; given = arrives 20 10 10 (wrapper_of true 24 13 12); gives = step 0 (fate.Held 0) 13 (reply.Leaving reason.LostSequence (reliable 10)) }
+    ∷ record { p = 10; given = arrives 20 10 10 (wrapper_of true 24 13 12); gives = step 0 (fate.Held 0) 13 (reply.Leaving lost_sequence (reliable 10)) }
     ∷ record { p = 11; given = arrives 20 10 10 (wrapper_of true 21 12 10); gives = step 9 fate.Dropped 10 reply.Nothing }
     ∷ record { p = 12; given = arrives 20 10 10 (wrapper_of true 20 10 10); gives = step 8 fate.Dropped 10 reply.Nothing }
     ∷ record { p = 13; given = arrives 60 49 42 (asking 61 50 8); gives = step 0 fate.Delivered 50 (reply.Ack (reliable 50)) }

@@ -12,7 +12,6 @@ use Rattle.message.specs.declared.Message.TheVariants as message
 use Rattle.message.specs.declared.Message.{Message}
 use Rattle.message.specs.declared.Wrapper.{Wrapper}
 use Rattle.refusal.specs.declared.Refusal.{Refusal}
-use Rattle.record.specs.Reasons.{number_of}
 use Rattle.record.specs.declared.Record.{Record}
 use Rattle.record.specs.declared.Terms.{Terms}
 use Rattle.gap.specs.declared.Event.TheVariants as event
@@ -82,17 +81,17 @@ ReadFrom s k (m ∷ ms) = ReadAt s k m × ReadFrom s (suc k) ms
 abbrev pub reply_means : Terms → Reply → List Message
 reply_means t reply.Nothing = []
 reply_means t (reply.Ack r) = message.Ack r ∷ []
-reply_means t (reply.Leaving reason r) = departure t r (number_of reason) ∷ []
+reply_means t (reply.Leaving reason r) = departure t r reason ∷ []
 
 -- what elapsed time sends
 abbrev pub event_means : Terms → Event → List Message
 event_means t event.Nothing = []
 event_means t (event.Nak r first last outbound) = missing t r first last ∷ []
-event_means t (event.Leaving reason r) = departure t r (number_of reason) ∷ []
+event_means t (event.Leaving reason r) = departure t r reason ∷ []
 
 -- the answer to the Join j of this owner, where n is the caller's reciprocal number
 abbrev pub join_means : Cid → Join → ℕ → Decision → List Message
-join_means owner j n (decision.Refuse reason) = join_refuse_of owner j (number_of reason) ∷ []
+join_means owner j n (decision.Refuse reason) = join_refuse_of owner j reason ∷ []
 join_means owner j n (decision.Again r reciprocal) = acceptance owner j r reciprocal ∷ []
 join_means owner j n (decision.Make p) = acceptance owner j j.reliable n ∷ message.Ack j.reliable ∷ []
 
@@ -116,19 +115,19 @@ pub record FitTerms (t : Terms) : Type 0 where
   pub mid : Octets 2 t.mid
   pub reciprocal : Octets 2 t.reciprocal
 
--- the numbers of a reply, of an event, of an answer to a Join, and of the record that the table has for it. Nothing is asked of a reason: its number is an octet whichever it is
+-- the numbers of a reply, of an event, of an answer to a Join, and of the record that the table has for it.
 abbrev pub FitReply : Reply → Type 0
 FitReply reply.Nothing = Unit {0}
 FitReply (reply.Ack r) = Octets 4 r.0
-FitReply (reply.Leaving reason r) = Octets 4 r.0
+FitReply (reply.Leaving reason r) = Octets 1 reason × Octets 4 r.0
 
 abbrev pub FitEvent : Event → Type 0
 FitEvent event.Nothing = Unit {0}
 FitEvent (event.Nak r first last outbound) = Octets 4 r.0 × Octets 4 first.0 × Octets 4 last.0
-FitEvent (event.Leaving reason r) = Octets 4 r.0
+FitEvent (event.Leaving reason r) = Octets 1 reason × Octets 4 r.0
 
 abbrev pub FitDecision : Decision → Type 0
-FitDecision (decision.Refuse reason) = Unit {0}
+FitDecision (decision.Refuse reason) = Octets 1 reason
 FitDecision (decision.Again r reciprocal) = Octets 4 r.0 × Octets 2 reciprocal
 FitDecision (decision.Make p) = Unit {0}
 

@@ -8,7 +8,7 @@ use native.Mathlib.Omega.{arith}
 use lib.Dec.{leb, eqb}
 use borrow.Author.Tests.{leb-true, leb-false, eqb-true, eqb-false}
 use Rattle.record.specs.Profile.{nak_timeout, max_retries}
-use Rattle.record.specs.declared.reasons.Reason.TheVariants as reason
+use Rattle.record.specs.Reasons.{channel_expired, lost_sequence}
 use Rattle.record.specs.With.{freed, with_gap, with_idle}
 use Rattle.record.specs.declared.Gap.{Gap}
 use Rattle.record.specs.declared.Gap.TheVariants.{Quiet, Standoff, Waiting}
@@ -36,9 +36,9 @@ pub data Next (r : Record) (ms : ℕ) : Gap → Gap → Event → Type 0 where
 -- a free record stands; a used one expires, is lost with its NAKs spent, or goes on
 pub data Move (r : Record) (ms : ℕ) : Elapsed → Type 0 where
   stands : r.used ≡ false → Move r ms (gives r Nothing)
-  expires : r.used ≡ true → r.terms.expiry * 1000 ≤ r.idle + ms → Move r ms (gives (freed (later r ms)) (Leaving reason.ChannelExpired r.reliable))
+  expires : r.used ≡ true → r.terms.expiry * 1000 ≤ r.idle + ms → Move r ms (gives (freed (later r ms)) (Leaving channel_expired r.reliable))
   lost : {left count : ℕ} → r.used ≡ true → r.idle + ms < r.terms.expiry * 1000 → r.gap ≡ Waiting left count → left ≤ ms → count ≡ max_retries
-      → Move r ms (gives (freed (with_gap (later r ms) (Waiting (left - ms) count))) (Leaving reason.LostSequence r.reliable))
+      → Move r ms (gives (freed (with_gap (later r ms) (Waiting (left - ms) count))) (Leaving lost_sequence r.reliable))
   goes_on : {g : Gap} {e : Event} → r.used ≡ true → r.idle + ms < r.terms.expiry * 1000 → Next r ms r.gap g e
       → Move r ms (gives (with_gap (later r ms) g) e)
 
@@ -65,7 +65,7 @@ module _ (r : Record) (ms : ℕ) (u : r.used ≡ true) (lives : r.idle + ms < r.
           → Move r ms
           (cond t
           (cond v
-          (gives (freed (with_gap (later r ms) (Waiting (left - ms) count))) (Leaving reason.LostSequence r.reliable))
+          (gives (freed (with_gap (later r ms) (Waiting (left - ms) count))) (Leaving lost_sequence r.reliable))
           (gives (with_gap (later r ms) (Standoff (standoff_of r) count)) Nothing))
           (gives (with_gap (later r ms) (Waiting (left - ms) count)) Nothing))
       by true true z e = lost u lives s (omega (arith, eqb-true (left - ms) 0 z)) (eqb-true count max_retries e)
@@ -78,7 +78,7 @@ moves r ms = by r.used (leb (r.terms.expiry * 1000) (r.idle + ms)) refl refl
   where
     by : (t x : Bool) → r.used ≡ t → leb (r.terms.expiry * 1000) (r.idle + ms) ≡ x
         → Move r ms
-        (cond t (cond x (gives (freed (later r ms)) (Leaving reason.ChannelExpired r.reliable)) (phased (later r ms) r.gap ms)) (gives r Nothing))
+        (cond t (cond x (gives (freed (later r ms)) (Leaving channel_expired r.reliable)) (phased (later r ms) r.gap ms)) (gives r Nothing))
     by true true u e = expires u (leb-true _ _ e)
     by true false u e = phase_moves r ms u (leb-false _ _ e) r.gap refl
     by false x u e = stands u

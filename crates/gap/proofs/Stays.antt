@@ -10,7 +10,6 @@ use Rattle.counter.specs.declared.Reliable.{Reliable}
 use Rattle.record.specs.With.{with_gap, with_idle}
 use Rattle.record.specs.WellFormed.{well_formed}
 use Rattle.record.specs.declared.Gap.{Gap}
-use Rattle.record.specs.declared.reasons.Reason.{Reason}
 use Rattle.record.specs.declared.Record.{Record}
 use Rattle.record.proofs.Choices.{never}
 use Rattle.record.proofs.Formed.{Phase, Formed, formed, well_formed_lem, free_formed}
@@ -61,7 +60,7 @@ next_phase r ms (waits_on l) p = (p.0, p.1, p.2, omega arith)
 next_phase r ms (once_more l n) p = (p.0, omega arith, standoff_most r)
 
 -- and sends no Leaving
-next_sends : {r : Record} {ms : ℕ} {g h : Gap} {e : Event} → Next r ms g h e → (reason : Reason) (n : Reliable) → e ≢ Leaving reason n
+next_sends : {r : Record} {ms : ℕ} {g h : Gap} {e : Event} → Next r ms g h e → (reason : ℕ) (n : Reliable) → e ≢ Leaving reason n
 next_sends quiet reason n e = never (cc)
 next_sends (stands_on l) reason n e = never (cc)
 next_sends (asks l) reason n e = never (cc)
@@ -83,25 +82,25 @@ pub elapsed_formed : (r : Record) (ms : ℕ) → well_formed r ≡ true → well
 elapsed_formed r ms = move_formed r ms (moves r ms)
 
 module _ (r : Record) (ms : ℕ) where
-  move_frees : {o : Elapsed} → Move r ms o → (reason : Reason) (n : Reliable) → o.event ≡ Leaving reason n → (o.after.used ≡ false) × (n ≡ r.reliable)
+  move_frees : {o : Elapsed} → Move r ms o → (reason : ℕ) (n : Reliable) → o.event ≡ Leaving reason n → (o.after.used ≡ false) × (n ≡ r.reliable)
   move_frees (stands u) reason n e = never (cc)
   move_frees (expires u x) reason n e = (refl, cc)
   move_frees (lost u x g l c) reason n e = (refl, cc)
   move_frees (goes_on u x m) reason n e = absurd (next_sends m reason n e)
 
   -- every Leaving frees the record and carries R
-  pub leaving_frees : (reason : Reason) (n : Reliable) → (elapsed_of r ms).event ≡ Leaving reason n
+  pub leaving_frees : (reason : ℕ) (n : Reliable) → (elapsed_of r ms).event ≡ Leaving reason n
       → ((elapsed_of r ms).after.used ≡ false) × (n ≡ r.reliable)
   leaving_frees = move_frees (moves r ms)
 
-  move_keeps : {o : Elapsed} → Move r ms o → ((reason : Reason) (n : Reliable) → o.event ≢ Leaving reason n) → o.after.used ≡ r.used
+  move_keeps : {o : Elapsed} → Move r ms o → ((reason : ℕ) (n : Reliable) → o.event ≢ Leaving reason n) → o.after.used ≡ r.used
   move_keeps (stands u) other = refl
   move_keeps (expires u x) other = absurd (other _ _ refl)
   move_keeps (lost u x g l c) other = absurd (other _ _ refl)
   move_keeps (goes_on u x m) other = refl
 
   -- and nothing else frees it
-  pub others_keep : ((reason : Reason) (n : Reliable) → (elapsed_of r ms).event ≢ Leaving reason n) → (elapsed_of r ms).after.used ≡ r.used
+  pub others_keep : ((reason : ℕ) (n : Reliable) → (elapsed_of r ms).event ≢ Leaving reason n) → (elapsed_of r ms).after.used ≡ r.used
   others_keep = move_keeps (moves r ms)
 
   move_terms : {o : Elapsed} → Move r ms o → o.after.terms ≡ r.terms

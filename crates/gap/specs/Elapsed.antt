@@ -1,7 +1,7 @@
 -- What elapsed time does to one record (01, "One channel", elapsed).
 use Rattle.std.specs.Prelude.{ℕ, ◌+◌, ◌-◌, ◌*◌, cond, leb, eqb}
 use Rattle.record.specs.Profile.{nak_timeout, max_retries}
-use Rattle.record.specs.declared.reasons.Reason.TheVariants as reason
+use Rattle.record.specs.Reasons.{channel_expired, lost_sequence}
 use Rattle.record.specs.With.{freed, with_gap, with_idle}
 use Rattle.record.specs.declared.Gap.{Gap}
 use Rattle.record.specs.declared.Gap.TheVariants as gap
@@ -27,7 +27,7 @@ unfoldable pub in_wait : Record → ℕ → ℕ → Elapsed
 in_wait r left count =
     cond (eqb left 0)
     (cond (eqb count max_retries)
-    (gives (freed (with_gap r (gap.Waiting left count))) (event.Leaving reason.LostSequence r.reliable))
+    (gives (freed (with_gap r (gap.Waiting left count))) (event.Leaving lost_sequence r.reliable))
     (gives (with_gap r (gap.Standoff (standoff_of r) count)) event.Nothing))
     (gives (with_gap r (gap.Waiting left count)) event.Nothing)
 
@@ -43,6 +43,6 @@ unfoldable pub elapsed_of : Record → ℕ → Elapsed
 elapsed_of r ms =
     cond r.used
     (cond (leb (r.terms.expiry * 1000) (r.idle + ms))
-    (gives (freed (with_idle r (r.idle + ms))) (event.Leaving reason.ChannelExpired r.reliable))
+    (gives (freed (with_idle r (r.idle + ms))) (event.Leaving channel_expired r.reliable))
     (phased (with_idle r (r.idle + ms)) r.gap ms))
     (gives r event.Nothing)

@@ -14,6 +14,7 @@ use record::{Gap, Place, Reason, Record, Terms, max_retries, nak_timeout};
 
 // What elapsed time makes a channel send: nothing, a NAK with R, its range and whether it goes outbound too, or Leaving with its reason and R.
 // `Nothing` is a case, and no `Option` around two: each use tells the three apart in one match.
+// The reason is the message's number: `put_event` (sending) takes any octet, and `event_read` (demands) says what is read back of each.
 #[derive(Clone, Copy, Debug, PartialEq, Eq)]
 pub enum Event {
     Nothing,
@@ -23,7 +24,7 @@ pub enum Event {
         last: Reliable,
         outbound: bool,
     },
-    Leaving(Reason, Reliable),
+    Leaving(u8, Reliable),
 }
 
 // A record after elapsed time, and what is sent.
@@ -129,7 +130,7 @@ fn in_wait(r: Record, left: u32, count: u8) -> Elapsed
     if count == max_retries() {
         return Elapsed {
             after: r.with_gap(Gap::Waiting { left, count }).freed(),
-            event: Event::Leaving(Reason::LostSequence, r.reliable),
+            event: Event::Leaving(Reason::LostSequence.into(), r.reliable),
         };
     }
     Elapsed::silent(r.with_gap(Gap::Standoff {
@@ -168,7 +169,7 @@ pub fn elapsed_step(r: Record, ms: u32) -> Elapsed
     if r.terms.expiry_time() <= later.idle {
         return Elapsed {
             after: later.freed(),
-            event: Event::Leaving(Reason::ChannelExpired, r.reliable),
+            event: Event::Leaving(Reason::ChannelExpired.into(), r.reliable),
         };
     }
     phase_step(later, ms)

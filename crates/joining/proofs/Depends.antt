@@ -14,7 +14,7 @@ use Rattle.message.specs.declared.Address.{Address}
 use Rattle.message.specs.declared.Address.TheVariants.{Null, Ipv4, Other}
 use Rattle.message.specs.declared.Join.{Join}
 use Rattle.record.specs.declared.Record.{Record}
-use Rattle.record.specs.declared.reasons.Reason.TheVariants as reason
+use Rattle.record.specs.Reasons.{illegal_parameters, low_resources, already_member, bad_address, no_reciprocal}
 use Rattle.joining.specs.Joining.{legal, decide_new, decide_for, existing_of, decide_at, decided}
 use Rattle.joining.specs.Checks.{supported, Carries, null, ipv4, Another}
 use Rattle.joining.specs.declared.Existing.{Existing}
@@ -33,14 +33,14 @@ depends j r s n free m e c = rw (m, e, c)
 
 -- why a Join is answered so: the condition of one check, where those before it let the Join pass
 data Cause (j : Join) (x : Option Existing) (n : ℕ) (free : Bool) : Decision → Type 0 where
-  illegal : legal j ≡ false → Cause j x n free (Refuse reason.IllegalParameters)
-  unsupported : legal j ≡ true → supported j.address ≡ false → Cause j x n free (Refuse reason.BadAddress)
-  another : legal j ≡ true → supported j.address ≡ true → Another j.mid x → Cause j x n free (Refuse reason.AlreadyMember)
+  illegal : legal j ≡ false → Cause j x n free (Refuse illegal_parameters)
+  unsupported : legal j ≡ true → supported j.address ≡ false → Cause j x n free (Refuse bad_address)
+  another : legal j ≡ true → supported j.address ≡ true → Another j.mid x → Cause j x n free (Refuse already_member)
   same : {r : Reliable} {own : ℕ} → legal j ≡ true → supported j.address ≡ true → x ≡ Some (record { mid = j.mid; reliable = r; reciprocal = own })
       → Cause j x n free (Again r own)
-  lacking : legal j ≡ true → supported j.address ≡ true → x ≡ None → n ≡ 0 → Cause j x n free (Refuse reason.NoReciprocal)
+  lacking : legal j ≡ true → supported j.address ≡ true → x ≡ None → n ≡ 0 → Cause j x n free (Refuse no_reciprocal)
   full : legal j ≡ true → supported j.address ≡ true → x ≡ None → n ≢ 0 → free ≡ false
-      → Cause j x n free (Refuse reason.LowResources)
+      → Cause j x n free (Refuse low_resources)
   made : {p : Parameters} → legal j ≡ true → Carries p j.address → x ≡ None → n ≢ 0 → free ≡ true → Cause j x n free (Make p)
 
 -- the parameters of a supported address
@@ -64,7 +64,7 @@ module _ (j : Join) (x : Option Existing) (n : ℕ) (free : Bool) where
     why_new u = by (eqb n 0) refl free refl
       where
         by : (z : Bool) → eqb n 0 ≡ z → (f : Bool) → free ≡ f
-            → Because (cond z (Refuse reason.NoReciprocal) (cond f (Make p) (Refuse reason.LowResources)))
+            → Because (cond z (Refuse no_reciprocal) (cond f (Make p) (Refuse low_resources)))
         by true z f e = lacking l (carrying c) u (eqb-true n 0 z)
         by false z true e = made l c u (eqb-false n 0 z) e
         by false z false e = full l (carrying c) u (eqb-false n 0 z) e
@@ -73,7 +73,7 @@ module _ (j : Join) (x : Option Existing) (n : ℕ) (free : Bool) where
     why_for None e = why_new e
     why_for (Some y) e = by (eqb y.mid j.mid) refl
       where
-        by : (t : Bool) → eqb y.mid j.mid ≡ t → Because (cond t (Again y.reliable y.reciprocal) (Refuse reason.AlreadyMember))
+        by : (t : Bool) → eqb y.mid j.mid ≡ t → Because (cond t (Again y.reliable y.reciprocal) (Refuse already_member))
         by true m =
             same l (carrying c)
             (e ∙ ap (λ (i : ℕ). Some (record { mid = i; reliable = y.reliable; reciprocal = y.reciprocal })) (eqb-true y.mid j.mid m))
@@ -88,7 +88,7 @@ module _ (j : Join) (x : Option Existing) (n : ℕ) (free : Bool) where
   unfolding decided
   why = by (legal j) refl
     where
-      by : (t : Bool) → legal j ≡ t → Because (cond t (decide_at j.address x j.mid n free) (Refuse reason.IllegalParameters))
+      by : (t : Bool) → legal j ≡ t → Because (cond t (decide_at j.address x j.mid n free) (Refuse illegal_parameters))
       by true l = why_at l j.address refl
       by false l = illegal l
 
@@ -112,13 +112,13 @@ module _ (j : Join) (x : Option Existing) (n : ℕ) (free : Bool) where
   leads (illegal l) = rw l
   leads (unsupported l s) = decided_at l ∙ other j.address s
     where
-      other : (a : Address) → supported a ≡ false → decide_at a x j.mid n free ≡ Refuse reason.BadAddress
+      other : (a : Address) → supported a ≡ false → decide_at a x j.mid n free ≡ Refuse bad_address
       other (Null p) s = absurd (true≢false s)
       other (Ipv4 i p) s = absurd (true≢false s)
       other (Other t) s = refl
   leads (another l s m) = decided_with l (parameters j.address s).1 ∙ is_other _ x m
     where
-      is_other : (p : Parameters) (y : Option Existing) → Another j.mid y → decide_for y j.mid p n free ≡ Refuse reason.AlreadyMember
+      is_other : (p : Parameters) (y : Option Existing) → Another j.mid y → decide_for y j.mid p n free ≡ Refuse already_member
       is_other p (Some e) m = rw (ne_eqb e.mid j.mid m)
       is_other p None m = absurd m
   leads (same l s e) = decided_with l (parameters j.address s).1 ∙ rw (e, eq-eqb j.mid j.mid refl)
@@ -131,13 +131,13 @@ module _ (j : Join) (x : Option Existing) (n : ℕ) (free : Bool) where
   exactly : {d : Decision} → (decided j x n free ≡ d) ↔ Because d
   exactly = (λ e. rw e at why, leads)
 
-  pub refused_illegal : (decided j x n free ≡ Refuse reason.IllegalParameters) ↔ (legal j ≡ false)
+  pub refused_illegal : (decided j x n free ≡ Refuse illegal_parameters) ↔ (legal j ≡ false)
   refused_illegal = Iff.trans exactly (elim [ illegal l ↦ l ], illegal)
 
-  pub refused_address : (decided j x n free ≡ Refuse reason.BadAddress) ↔ ((legal j ≡ true) × (supported j.address ≡ false))
+  pub refused_address : (decided j x n free ≡ Refuse bad_address) ↔ ((legal j ≡ true) × (supported j.address ≡ false))
   refused_address = Iff.trans exactly (elim [ unsupported l s ↦ (l, s) ], λ h. unsupported h.0 h.1)
 
-  pub refused_member : (decided j x n free ≡ Refuse reason.AlreadyMember)
+  pub refused_member : (decided j x n free ≡ Refuse already_member)
       ↔ ((legal j ≡ true) × (supported j.address ≡ true) × Another j.mid x)
   refused_member = Iff.trans exactly (elim [ another l s m ↦ (l, s, m) ], λ h. another h.0 h.1 h.2)
 
@@ -145,11 +145,11 @@ module _ (j : Join) (x : Option Existing) (n : ℕ) (free : Bool) where
       ↔ ((legal j ≡ true) × (supported j.address ≡ true) × (x ≡ Some (record { mid = j.mid; reliable = r; reciprocal = own })))
   accepted_again r own = Iff.trans exactly (elim [ same l s e ↦ (l, s, e) ], λ h. same h.0 h.1 h.2)
 
-  pub refused_reciprocal : (decided j x n free ≡ Refuse reason.NoReciprocal)
+  pub refused_reciprocal : (decided j x n free ≡ Refuse no_reciprocal)
       ↔ ((legal j ≡ true) × (supported j.address ≡ true) × (x ≡ None) × (n ≡ 0))
   refused_reciprocal = Iff.trans exactly (elim [ lacking l s u z ↦ (l, s, u, z) ], λ h. lacking h.0 h.1 h.2 h.3)
 
-  pub refused_resources : (decided j x n free ≡ Refuse reason.LowResources)
+  pub refused_resources : (decided j x n free ≡ Refuse low_resources)
       ↔ ((legal j ≡ true) × (supported j.address ≡ true) × (x ≡ None) × (n ≢ 0) × (free ≡ false))
   refused_resources =
       Iff.trans exactly (elim [ full l s u z f ↦ (l, s, u, z, f) ], λ h. full h.0 h.1 h.2 h.3 h.4)

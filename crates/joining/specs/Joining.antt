@@ -10,7 +10,7 @@ use Rattle.record.specs.Legal.{legal_names, legal_parameters}
 use Rattle.record.specs.With.{free_place}
 use Rattle.record.specs.declared.Gap.TheVariants as gap
 use Rattle.record.specs.declared.Record.{Record}
-use Rattle.record.specs.declared.reasons.Reason.TheVariants as reason
+use Rattle.record.specs.Reasons.{illegal_parameters, low_resources, already_member, bad_address, no_reciprocal}
 use Rattle.joining.specs.declared.Existing.{Existing}
 use Rattle.joining.specs.declared.Decision.{Decision}
 use Rattle.joining.specs.declared.Decision.TheVariants as decision
@@ -35,23 +35,23 @@ existing_of r = record { mid = r.terms.mid; reliable = r.reliable; reciprocal = 
 -- the channel has no record yet: a reciprocal number is needed, and then a free record
 unfoldable pub decide_new : Parameters → ℕ → Bool → Decision
 decide_new p n free =
-    cond (eqb n 0) (decision.Refuse reason.NoReciprocal)
-    (cond free (decision.Make p) (decision.Refuse reason.LowResources))
+    cond (eqb n 0) (decision.Refuse no_reciprocal)
+    (cond free (decision.Make p) (decision.Refuse low_resources))
 
 -- the channel has a record: for the same member it is accepted again, with what the record has; another MID is refused
 abbrev pub decide_for : Option Existing → ℕ → Parameters → ℕ → Bool → Decision
 decide_for (Some e) asked p n free =
-    cond (eqb e.mid asked) (decision.Again e.reliable e.reciprocal) (decision.Refuse reason.AlreadyMember)
+    cond (eqb e.mid asked) (decision.Again e.reliable e.reciprocal) (decision.Refuse already_member)
 decide_for None asked p n free = decide_new p n free
 
 abbrev pub decide_at : Address → Option Existing → ℕ → ℕ → Bool → Decision
 decide_at (address.Null p) e asked n free = decide_for e asked p n free
 decide_at (address.Ipv4 a p) e asked n free = decide_for e asked p n free
-decide_at (address.Other t) e asked n free = decision.Refuse reason.BadAddress
+decide_at (address.Other t) e asked n free = decision.Refuse bad_address
 
 unfoldable pub decided : Join → Option Existing → ℕ → Bool → Decision
 decided j e n free =
-    cond (legal j) (decide_at j.address e j.mid n free) (decision.Refuse reason.IllegalParameters)
+    cond (legal j) (decide_at j.address e j.mid n free) (decision.Refuse illegal_parameters)
 
 -- ---- the new record
 

@@ -30,9 +30,10 @@ impl From<Record> for Existing {
 }
 
 // What a Join is answered: Join Refuse with a reason, Join Accept again with the record's numbers, or a new record with these parameters.
+// The reason is the message's number: `put_join_reply` (sending), which docs/DEMANDS.md names, takes any octet, and a `Reason` would ask more of callers.
 #[derive(Clone, Copy)]
 pub enum Decision {
-    Refuse(Reason),
+    Refuse(u8),
     Again { reliable: Reliable, reciprocal: u16 },
     Make(Parameters),
 }
@@ -66,12 +67,12 @@ fn decide_new(p: Parameters, reciprocal: u16, free: bool) -> Decision
     ensures { result ≡ decide_new p reciprocal free }
 {
     if reciprocal == 0 {
-        return Decision::Refuse(Reason::NoReciprocal);
+        return Decision::Refuse(Reason::NoReciprocal.into());
     }
     if free {
         Decision::Make(p)
     } else {
-        Decision::Refuse(Reason::LowResources)
+        Decision::Refuse(Reason::LowResources.into())
     }
 }
 
@@ -90,7 +91,7 @@ fn decide_for(
             reliable: known.reliable,
             reciprocal: known.reciprocal,
         },
-        Some(_) => Decision::Refuse(Reason::AlreadyMember),
+        Some(_) => Decision::Refuse(Reason::AlreadyMember.into()),
     }
 }
 
@@ -101,13 +102,13 @@ pub fn decide(j: Join, existing: Option<Existing>, reciprocal: u16, free: bool) 
     ensures { result ≡ decided j existing reciprocal free }
 {
     if !is_legal(j) {
-        return Decision::Refuse(Reason::IllegalParameters);
+        return Decision::Refuse(Reason::IllegalParameters.into());
     }
     match j.address {
         Address::Null(p) | Address::Ipv4(_, p) => {
             decide_for(existing, j.mid, p, reciprocal, free)
         }
-        Address::Other(_) => Decision::Refuse(Reason::BadAddress),
+        Address::Other(_) => Decision::Refuse(Reason::BadAddress.into()),
     }
 }
 

@@ -6,7 +6,6 @@ use Rattle.message.specs.declared.Join.{Join}
 use Rattle.message.specs.declared.Message.{Message}
 use Rattle.message.specs.declared.Message.TheVariants as message
 use Rattle.writing.specs.Writing.{pdu_of}
-use Rattle.record.specs.Reasons.{number_of}
 use Rattle.record.specs.declared.Terms.{Terms}
 use Rattle.gap.specs.declared.Event.{Event}
 use Rattle.gap.specs.declared.Event.TheVariants as event
@@ -28,13 +27,13 @@ sent_of m = pdu_of m []
 unfoldable pub reply_of : Terms → Reply → List ℕ
 reply_of t reply.Nothing = []
 reply_of t (reply.Ack r) = sent_of (message.Ack r)
-reply_of t (reply.Leaving reason r) = sent_of (departure t r (number_of reason))
+reply_of t (reply.Leaving reason r) = sent_of (departure t r reason)
 
 -- what elapsed time makes the channel of these terms send
 unfoldable pub event_of : Terms → Event → List ℕ
 event_of t event.Nothing = []
 event_of t (event.Nak r first last outbound) = sent_of (missing t r first last)
-event_of t (event.Leaving reason r) = sent_of (departure t r (number_of reason))
+event_of t (event.Leaving reason r) = sent_of (departure t r reason)
 
 -- a new member's reply, where n is the caller's reciprocal number: a Join Accept, and an ACK of the Join's reliable number as a PDU of its own
 unfoldable pub welcome_of : Cid → Join → ℕ → List ℕ
@@ -42,6 +41,6 @@ welcome_of owner j n = sent_of (acceptance owner j j.reliable n) ++ sent_of (mes
 
 -- the reply to a Join
 unfoldable pub join_reply_of : Cid → Join → ℕ → Decision → List ℕ
-join_reply_of owner j n (decision.Refuse reason) = sent_of (join_refuse_of owner j (number_of reason))
+join_reply_of owner j n (decision.Refuse reason) = sent_of (join_refuse_of owner j reason)
 join_reply_of owner j n (decision.Again r reciprocal) = sent_of (acceptance owner j r reciprocal)
 join_reply_of owner j n (decision.Make p) = welcome_of owner j n

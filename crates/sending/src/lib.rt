@@ -53,7 +53,7 @@ pub fn put_reply(room: &mut [u8], terms: Terms, reply: Reply) -> usize
     match reply {
         Reply::Nothing => 0,
         Reply::Ack(reliable) => put_message(room, Message::Ack(reliable)),
-        Reply::Leaving(reason, reliable) => put_leaving(room, terms, reliable, reason.into()),
+        Reply::Leaving(reason, reliable) => put_leaving(room, terms, reliable, reason),
     }
 }
 
@@ -71,7 +71,7 @@ pub fn put_event(room: &mut [u8], terms: Terms, event: Event) -> usize
             last,
             outbound: _,
         } => put_message(room, joining::nak_of(terms, reliable, first, last)),
-        Event::Leaving(reason, reliable) => put_leaving(room, terms, reliable, reason.into()),
+        Event::Leaving(reason, reliable) => put_leaving(room, terms, reliable, reason),
     }
 }
 
@@ -89,10 +89,7 @@ pub fn put_join_reply(
     ensures { Put (join_reply_of owner j reciprocal decision) result room.old room.new }
 {
     match decision {
-        Decision::Refuse(reason) => put_message(
-            room,
-            joining::join_refuse_of(owner, j, reason.into()),
-        ),
+        Decision::Refuse(reason) => put_message(room, joining::join_refuse_of(owner, j, reason)),
         Decision::Again {
             reliable,
             reciprocal: kept,

@@ -4,7 +4,7 @@ use Rattle.std.specs.Int.Signed.{le_z}
 use Rattle.counter.specs.Distance.{distance}
 use Rattle.counter.specs.Steps.{before}
 use Rattle.counter.specs.declared.Reliable.{Reliable}
-use Rattle.record.specs.declared.reasons.Reason.TheVariants.{LostSequence}
+use Rattle.record.specs.Reasons.{lost_sequence}
 use Rattle.record.specs.WellFormed.{closed}
 use Rattle.record.specs.With.{freed, with_gap, with_acked}
 use Rattle.record.specs.declared.Gap.{Gap}
@@ -51,7 +51,7 @@ acknowledged r w =
 -- steps 5 and 6: a channel that is left sends Leaving, and no ACK
 abbrev pub settled_by : Option Record → Record → Arrived → Settled
 settled_by (Some after) r w = acknowledged after w
-settled_by None r w = record { after = freed r; reply = reply.Leaving LostSequence r.reliable }
+settled_by None r w = record { after = freed r; reply = reply.Leaving lost_sequence r.reliable }
 
 unfoldable pub settled : Record → Arrived → Settled
 settled r w = settled_by (gapped r w.oldest) r w

@@ -10,7 +10,7 @@ ghost use Rattle.std.specs.Prelude.{◌≡◌};
 ghost use Rattle.wrapper.specs.Taken.{taken, stepped};
 
 use counter::{Reliable, Total};
-use record::{Reason, Record};
+use record::Record;
 use refusal::Refusal;
 
 // A wrapper that has arrived: `reliably` if it is a reliable one, its numbers, and the length of its contents.
@@ -53,11 +53,12 @@ pub struct Released {
 }
 
 // What is sent. `Nothing` is a case, and no `Option` around two: each use tells the three apart in one match.
+// The reason is the message's number, as in gap's `Event`: `put_reply` (sending) takes any octet, and `reply_read` (demands) says what is read back of each.
 #[derive(Clone, Copy)]
 pub enum Reply {
     Nothing,
     Ack(Reliable),
-    Leaving(Reason, Reliable),
+    Leaving(u8, Reliable),
 }
 
 // A record after step 6.

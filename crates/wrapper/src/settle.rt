@@ -87,7 +87,7 @@ pub fn settle(r: Record, w: Arrived) -> Settled
         Some(after) => acknowledge(after, w),
         None => Settled {
             after: r.freed(),
-            reply: Reply::Leaving(Reason::LostSequence, r.reliable),
+            reply: Reply::Leaving(Reason::LostSequence.into(), r.reliable),
         },
     }
 }

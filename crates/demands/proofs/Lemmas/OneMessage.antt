@@ -21,7 +21,7 @@ use Rattle.refusal.specs.declared.Refusal.{Refusal}
 use Rattle.refusal.specs.declared.Refusal.TheVariants as refusal
 use Rattle.record.specs.WellFormed.{most_contents}
 use Rattle.record.specs.declared.Record.{Record}
-use Rattle.record.specs.declared.reasons.Reason.TheVariants as reason
+use Rattle.record.specs.Reasons.{illegal_parameters}
 use Rattle.wrapper.specs.Taken.{taken, stepped}
 use Rattle.wrapper.specs.declared.Arrived.{Arrived}
 use Rattle.wrapper.specs.declared.Plan.{Plan}
@@ -113,7 +113,7 @@ module _ (s : State) (right : Right s) (held deliver reply : ℕ) (sender ours :
 -- the answer to a Join that meets a record does not depend on free ones
 decided_known : (j : Join) (r : Record) (n : ℕ) (free : Bool) → decided j (Some (existing_of r)) n free ≡ decided j (Some (existing_of r)) n true
 unfolding decided
-decided_known j r n free = ap (λ (a : Decision). cond (legal j) a (decision.Refuse reason.IllegalParameters)) (by j.address)
+decided_known j r n free = ap (λ (a : Decision). cond (legal j) a (decision.Refuse illegal_parameters)) (by j.address)
   where
     by : (a : Address) → decide_at a (Some (existing_of r)) j.mid n free ≡ decide_at a (Some (existing_of r)) j.mid n true
     by (address.Null p) = refl
