@@ -1,3 +1,4 @@
+pub mod Table
 pub mod Lengths
 pub mod Readable
 pub mod Arms

@@ -1,14 +1,15 @@
 -- What numbers and octets have to do with each other, each law once over the width. The pair of round trips is `number_octets` and
 -- `octets_number`. Assumes nothing.
 use mathlib.Core.Path.{◌≡◌, refl, sym, ap, ◌∙◌}
-use Prim.Native.Nat.{ℕ, zero, suc, ◌+◌, ◌*◌, ◌^◌, ◌%◌, ◌<◌, ◌≤◌}
-use native.Mathlib.Nat.{mul_comm, mul_assoc, pow-suc, mod-one, mod-eq_of_lt, mul-add-div_right, mul-add-mod_self_right}
+use Prim.Native.Nat.{ℕ, zero, suc, ◌+◌, ◌*◌, ◌^◌, ◌/◌, ◌%◌, ◌<◌, ◌≤◌}
+use native.Mathlib.Nat.{zero-add, div-add-mod', suc-add, mul_comm, mul_assoc, pow-suc, mod-one, mod-eq_of_lt, add_assoc, add-mul, div-div-eq-div-mul, mul-add-div_right, mul-add-mod_self_right}
 use native.Mathlib.Omega.{arith}
 use native.Mathlib.Numerals.{add-one}
 use mathlib.Core.List.{List, [], ◌∷◌, ◌++◌}
-use lib.ListN.{length, get_or, drop, length-drop}
+use lib.ListN.{length, get_or, drop, length-append, length-drop}
 use lib.Seq.{length-take-le, drop-cons, take-add, drop-drop}
 use lib.Arith.{mod-mul, digits_div, digits_lt}
+use lib.Pow.{pow-add}
 use lib.Dec.{lit<}
 use Rattle.octets.specs.Octets.{Octets, number, octets, part, number_at}
 
@@ -21,6 +22,24 @@ unfolding octets
 length_octets zero x = refl
 length_octets (suc n) x = ap suc (length_octets n x)
 
+-- ---- side by side
+
+-- the number of octets that stand behind others
+pub number_append : (xs ys : List ℕ) → number (xs ++ ys) ≡ number xs * 256 ^ length ys + number ys
+unfolding number
+number_append [] ys = omega arith
+number_append (x ∷ xs) ys =
+    rw (number_append xs ys, length-append xs ys, pow-add, ← mul_assoc)
+    (sym (rw (add-mul, add_assoc)))
+
+-- a number in n + m octets: its upper n, then its lower m
+pub octets_append : (n m x : ℕ) → octets (n + m) x ≡ octets n (x / 256 ^ m) ++ octets m x
+unfolding octets
+octets_append zero m x = rw zero-add
+octets_append (suc n) m x =
+    rw (suc-add, octets_append n m x)
+    (ap (λ (k : ℕ). (k % 256) ∷ (octets n (x / 256 ^ m) ++ octets m x)) (rw (pow-add, mul_comm) (sym (div-div-eq-div-mul x (256 ^ m) (256 ^ n)))))
+
 -- ---- cut off
 
 -- what does not fit in n octets is cut off
@@ -30,6 +49,9 @@ octets_cut zero a x = refl
 octets_cut (suc n) a x =
     let e : a * 256 ^ suc n ≡ (a * 256) * 256 ^ n = rw (pow-suc, mul_comm (256 ^ n) 256) (sym (mul_assoc a 256 (256 ^ n))) in
     rw (e, octets_cut n (a * 256) x, mul-add-div_right (above_zero n), mul-add-mod_self_right)
+
+pub octets_mod : (n x : ℕ) → octets n (x % 256 ^ n) ≡ octets n x
+octets_mod n x = sym (octets_cut n (x / 256 ^ n) (x % 256 ^ n)) ∙ ap (octets n) (div-add-mod' x (256 ^ n))
 
 -- ---- the round trips
 
@@ -75,6 +97,11 @@ part_cons s at n h = rw (drop-cons s at 0 h, add-one at)
 
 pub length_part : (s : List ℕ) (at n : ℕ) → at + n ≤ length s → length (part s at n) ≡ n
 length_part s at n h = length-take-le n (drop at s) (rw length-drop (omega arith))
+
+-- the number in n + m octets from those in the first n and in the other m
+pub number_halves : (s : List ℕ) (at n m : ℕ) → at + n + m ≤ length s
+    → number_at s at n * 256 ^ m + number_at s (at + n) m ≡ number_at s at (n + m)
+number_halves s at n m h = sym (rw (part_add s at n m, number_append, length_part s (at + n) m h))
 
 -- n octets of s, the k-th behind `at` and those after it, one by one
 abbrev each : List ℕ → ℕ → ℕ → ℕ → List ℕ

@@ -3,6 +3,7 @@ use mathlib.Core.Path.{◌≡◌, refl, sym, ap, ◌∙◌}
 use Prim.Native.Nat.{ℕ, zero, suc, ◌+◌, ◌-◌, ◌^◌, ◌/◌, ◌%◌, ◌<◌, ◌≤◌}
 use native.Mathlib.Nat.{div-one, mod-eq_of_lt, add_assoc}
 use native.Mathlib.Omega.{arith}
+use native.Mathlib.Numerals.{add-one}
 use mathlib.Core.List.{List, [], ◌∷◌, ◌++◌, append_assoc}
 use lib.ListN.{length, set, take, drop, length-append}
 use lib.Seq.{take-append_seam, length-take-le, take-length, take_at, drop_at, drop-drop, sets, sets-eq, length-sets, paste-zero}
@@ -10,7 +11,7 @@ use borrow.Rule.Slice.PartMut.{put_mid}
 use Rattle.std.proofs.lemmas.Slice.{put_mid-paste}
 use Rattle.std.specs.Int.{bytes_high_first}
 use Rattle.octets.specs.Octets.{octets, part, splice, joined}
-use Rattle.octets.proofs.Numbers.{length_octets}
+use Rattle.octets.proofs.Numbers.{length_octets, octets_append, octets_mod}
 
 -- a run of stores is a splice
 stored : (s : List ℕ) (at : ℕ) (ys : List ℕ) → at + length ys ≤ length s → sets s at ys ≡ splice s at ys
@@ -68,6 +69,25 @@ unfolding octets
 splice_one s at x hx h =
     let e : x / 1 % 256 ≡ x = rw (div-one x) (mod-eq_of_lt hx) in
     ap (λ (k : ℕ). set s at k) (sym e) ∙ stored s at (octets 1 x) h
+
+-- and one of two octets, its upper octet and then its lower
+pub splice_two : (s : List ℕ) (at x : ℕ) → x < 65536 → at + 2 ≤ length s
+    → set (set s at (x / 256)) (at + 1) (x % 256) ≡ splice s at (octets 2 x)
+unfolding octets
+splice_two s at x hx h =
+    let e : x / 256 % 256 ≡ x / 256 = mod-eq_of_lt (omega arith) in
+    rw add-one
+    (ap (λ (k : ℕ). set (set s at k) (suc at) (x % 256)) (sym e)
+    ∙ ap (λ (k : ℕ). set (set s at (x / 256 % 256)) (suc at) (k % 256)) (sym (div-one x))
+    ∙ stored s at (octets 2 x) h)
+
+-- a number of n + m octets, its upper n written and then its lower m
+pub splice_halves : (s : List ℕ) (at n m x : ℕ) → at + n ≤ length s
+    → splice (splice s at (octets n (x / 256 ^ m))) (at + n) (octets m (x % 256 ^ m)) ≡ splice s at (octets (n + m) x)
+splice_halves s at n m x h =
+    ap (λ (r : List ℕ). splice (splice s at (octets n (x / 256 ^ m))) (at + n) r) (octets_mod m x)
+    ∙ splice_splice s at n (octets n (x / 256 ^ m)) (octets m x) (length_octets n (x / 256 ^ m)) h
+    ∙ ap (splice s at) (sym (octets_append n m x))
 
 -- ---- a run of writes
 

@@ -9,7 +9,7 @@ use mathlib.Core.Path.{◌≡◌, refl, sym, ap, ◌∙◌}
 use native.Mathlib.Omega.{arith}
 use lib.ListN.{length, set}
 use lib.Seq.{get_or-set_same, get_or-set_other}
-use borrow.Author.Tests.{eqb-true, eq-eqb}
+use borrow.Author.Tests.{eqb-true, eq-eqb, not-true}
 use Rattle.message.specs.declared.Cid.{Cid}
 use Rattle.record.specs.WellFormed.{well_formed}
 use Rattle.record.specs.declared.Record.{Record}
@@ -79,6 +79,10 @@ is_differs r (s ∷ ts) f = and _ _ (yes r.used _ (λ u. f u 0)) (is_differs r t
     yes false b f = refl
     yes true false f = refl
     yes true true f = absurd (f refl refl)
+
+-- a free record differs from any
+pub free_differs : (r : Record) (ts : List Record) → not r.used ≡ true → true ≡ differs r ts
+free_differs r ts u = sym (is_differs r ts (λ v. absurd (false≢true (sym (not-true r.used u) ∙ v))))
 
 -- a free record has no owner and no channel
 free_named : (o : Cid) (c : ℕ) (r : Record) → r.used ≡ false → named o c r ≢ true

@@ -12,7 +12,7 @@ use lib.IntN.{ℤ, pos}
 use lib.ListN.{length, set, length-set, get_or-eq_default}
 use lib.Signed.{lt_z, le_z}
 use borrow.Author.Tests.{ltb-true, ltb-false, eqb-true, eqb-false, eq-eqb}
-use Rattle.std.specs.Prelude.{Option, Some, None, Result, Ok, Err}
+use Rattle.std.specs.Prelude.{Option, Some, None, IfSome, Result, Ok, Err}
 use Rattle.counter.specs.Distance.{turn, ahead, distance}
 use Rattle.counter.specs.declared.Reliable.{Reliable}
 use Rattle.counter.proofs.Distances.{ahead_zero, ahead_between, ahead_is, distance_ahead, at_least, test_nearer}
@@ -454,6 +454,22 @@ going_formed r g h p =
       gap = p;
       idle = h.stands.idle;
     })
+
+-- so step 5 makes the phase fit, where the channel is not left (and a record that is freed is well formed: `free_formed`)
+pub gapped_formed : (r : Record) (oldest : Reliable) → Going 2 r → IfSome (gapped r oldest) (λ s. well_formed s ≡ true)
+unfolding gapped closed
+gapped_formed r oldest h =
+    each_case Formed_by (closed r) (Some (with_gap r Quiet)) _
+    (λ e. going_formed r Quiet h (eqb-true r.known.0 r.reliable.0 e))
+    (λ e.
+    each_case Formed_by (lost r oldest) None (Some (with_gap r (begun r.gap (standoff_of r))))
+    (λ l. tt)
+    (λ l.
+    going_formed r (begun r.gap (standoff_of r)) h
+    (h.stands.phase r.reliable.0 r.known.0 (standoff_of r) (eqb-false r.known.0 r.reliable.0 e) (standoff_most r))))
+  where
+    Formed_by : Option Record → Type 0
+    Formed_by g = IfSome g (λ s. well_formed s ≡ true)
 
 -- nothing is asked of A
 acked_formed : (r : Record) (a : Reliable) → well_formed (with_acked r a) ≡ well_formed r

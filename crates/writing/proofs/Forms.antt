@@ -1,13 +1,13 @@
 -- How long a message's fields and its PDU are, and that the one table of data lengths says so: it has a row exactly for the messages with
 -- a written form. Assumes nothing.
-use Prim.Native.Nat.{ℕ, ◌+◌, ◌≤◌}
+use Prim.Native.Nat.{ℕ, ◌+◌, ◌<◌, ◌≤◌}
 use native.Mathlib.Omega.{arith}
 use mathlib.Core.Path.{◌≡◌, refl, sym, ap, ◌∙◌}
 use mathlib.Core.Bool.{Bool, true, false, cond}
 use mathlib.Core.List.{List, append-nil}
 use lib.ListN.{length, take, length-append}
 use lib.Seq.{length-take-le, take-length}
-use lib.Dec.{ltb}
+use lib.Dec.{ltb, lit<}
 use Rattle.std.specs.Prelude.{Some, None}
 use Rattle.std.proofs.lemmas.Option.{none-some}
 use Rattle.octets.specs.Octets.{octets}
@@ -81,29 +81,30 @@ join_listed (address.Null p) = refl
 join_listed (address.Ipv4 e p) = refl
 join_listed (address.Other t) = refl
 
--- it has the length of the fields of a message with a written form, and no row for any other
-pub listed : (m : Message) → length_of (vector_of m) (address_of m) ≡ cond (has_form m) (Some (length (fields_of m))) None
+-- it has the length of the fields of a message with a written form, and no row for any other; and no message is without fields
+pub listed : (m : Message)
+    → (length_of (vector_of m) (address_of m) ≡ cond (has_form m) (Some (length (fields_of m))) None) × (0 < length (fields_of m))
 unfolding octets cid_octets membership_octets wrapper_octets fields_of vector_of address_of has_form length_of look
-listed (message.ReliableWrapper w) = refl
-listed (message.UnreliableWrapper w) = refl
-listed (message.Join j) = rw (join_length j) (join_listed j.address)
-listed (message.JoinRefuse m reason) = refl
-listed (message.JoinAccept m reciprocal) = refl
-listed (message.Leaving m reason) = refl
-listed (message.Ack r) = refl
-listed (message.Nak m first last) = refl
-listed (message.GetSessions cid) = refl
+listed (message.ReliableWrapper w) = (refl, lit< tt)
+listed (message.UnreliableWrapper w) = (refl, lit< tt)
+listed (message.Join j) = (rw (join_length j) (join_listed j.address), omega (arith, join_length j))
+listed (message.JoinRefuse m reason) = (refl, lit< tt)
+listed (message.JoinAccept m reciprocal) = (refl, lit< tt)
+listed (message.Leaving m reason) = (refl, lit< tt)
+listed (message.Ack r) = (refl, lit< tt)
+listed (message.Nak m first last) = (refl, lit< tt)
+listed (message.GetSessions cid) = (refl, lit< tt)
 
 -- so a message with a row has a form, and its fields are as long as the row says
 pub some_listed : (m : Message) (len : ℕ) → length_of (vector_of m) (address_of m) ≡ Some len → (has_form m ≡ true) × (len ≡ length (fields_of m))
-some_listed m len e = by (has_form m) (sym (listed m) ∙ e)
+some_listed m len e = by (has_form m) (sym (listed m).0 ∙ e)
   where
     by : (b : Bool) → cond b (Some (length (fields_of m))) None ≡ Some len → (b ≡ true) × (len ≡ length (fields_of m))
     by true q = (refl, cc)
     by false q = absurd (none-some _ q)
 
 pub none_listed : (m : Message) → length_of (vector_of m) (address_of m) ≡ None → has_form m ≡ false
-none_listed m e = by (has_form m) (sym (listed m) ∙ e)
+none_listed m e = by (has_form m) (sym (listed m).0 ∙ e)
   where
     by : (b : Bool) → cond b (Some (length (fields_of m))) None ≡ None → b ≡ false
     by true q = absurd (none-some _ (sym q))

@@ -17,7 +17,7 @@ use Rattle.demands.specs.Refusals.{Check, first_number, First, here, later, None
 
 -- ---- a number is given exactly if its condition holds and no earlier one does
 
-first_is_given : (n : ℕ) (cs : List Check) → First n cs → first_number cs ≡ n
+pub first_is_given : (n : ℕ) (cs : List Check) → First n cs → first_number cs ≡ n
 unfolding first_number
 first_is_given n cs (here ds) = refl
 first_is_given n cs (later m ds f) = first_is_given n ds f
@@ -27,14 +27,14 @@ first_by : (n m : ℕ) (b : Bool) (cs : List Check) → (first_number cs ≡ n �
 first_by n m true cs rest e = rw e (here cs)
 first_by n m false cs rest e = later m cs (rest e)
 
-given_is_first : (n : ℕ) (cs : List Check) → (n ≡ 0 → ⊥) → first_number cs ≡ n → First n cs
+pub given_is_first : (n : ℕ) (cs : List Check) → (n ≡ 0 → ⊥) → first_number cs ≡ n → First n cs
 unfolding first_number
 given_is_first n [] z e = absurd (z (sym e))
 given_is_first n (c ∷ cs) z e = first_by n c.number c.holds cs (given_is_first n cs z) e
 
 -- ---- and nothing is refused exactly if no condition holds
 
-none_is_given : (cs : List Check) → None cs → first_number cs ≡ 0
+pub none_is_given : (cs : List Check) → None cs → first_number cs ≡ 0
 unfolding first_number
 none_is_given cs none = refl
 none_is_given cs (also m ds f) = none_is_given ds f
@@ -48,7 +48,7 @@ none_by : (m : ℕ) (b : Bool) (cs : List Check) → (m ≡ 0 → ⊥) → (firs
 none_by m true cs z rest e = absurd (z e)
 none_by m false cs z rest e = also m cs (rest e)
 
-given_is_none : (cs : List Check) → numbered cs ≡ true → first_number cs ≡ 0 → None cs
+pub given_is_none : (cs : List Check) → numbered cs ≡ true → first_number cs ≡ 0 → None cs
 unfolding first_number
 given_is_none [] n e = none
 given_is_none (c ∷ cs) n e =

@@ -130,3 +130,13 @@ unfolding taken settled
 gap_kept r w used in_gap =
     by_gap _ _ w (gapped_settles (released (placed (heard r w.reliable) w).after).after w.oldest) used in_gap
     ∙ ap (λ g. begun g (standoff_of (released (placed (heard r w.reliable) w).after).after)) (kept_before r w).gap
+
+-- what is used after a step was used before it
+pub used_before : (r : Record) (w : Arrived) → (taken r w).after.used ≡ true → r.used ≡ true
+unfolding taken settled
+used_before r w used = sym (kept_before r w).used ∙ by (gapped_settles (released (placed (heard r w.reliable) w).after).after w.oldest) used
+  where
+    by : {s : Record} {g : Option Record} → Settles s g → (settled_by g s w).after.used ≡ true → s.used ≡ true
+    by {s} (quiet e) u = sym (acknowledged_kept (with_gap s gap.Quiet) w).kept.used ∙ u
+    by {s} (leaves e) u = absurd (false≢true u)
+    by {s} (waits e) u = sym (acknowledged_kept (with_gap s (begun s.gap (standoff_of s))) w).kept.used ∙ u

@@ -10,7 +10,7 @@ use Rattle.gap.specs.Elapsed.{gives}
 use Rattle.gap.specs.declared.Event.TheVariants as event
 use Rattle.sending.specs.Sent.{event_of}
 use Rattle.member.specs.Sizes.{cell_size}
-use Rattle.member.specs.Elapsing.{cells_from}
+use Rattle.member.specs.Elapsing.{cell_of, cells_from}
 use Rattle.demands.specs.Runs.{Each, none, more}
 
 -- ---- what holds of each element
@@ -39,3 +39,8 @@ unfolding cells_from event_of
 silent [] i room = refl
 silent (r ∷ ts) i room =
     ap (λ after. cells_from (i + 1) (map (λ r. gives r event.Nothing) ts) after) (sym (splice_nothing room (i * cell_size))) ∙ silent ts (i + 1) room
+
+pub quiet_cells : (ts : List Record) → map cell_of (map (λ r. gives r event.Nothing) ts) ≡ map (λ r. record { event = event.Nothing; len = 0 }) ts
+unfolding event_of
+quiet_cells [] = refl
+quiet_cells (r ∷ ts) = ap (λ cs. record { event = event.Nothing; len = 0 } ∷ cs) (quiet_cells ts)
