@@ -5,13 +5,13 @@ use native.Mathlib.Nat.{div-one, mod-eq_of_lt, add_assoc}
 use native.Mathlib.Omega.{arith}
 use native.Mathlib.Numerals.{add-one}
 use mathlib.Core.List.{List, [], ◌∷◌, ◌++◌, append_assoc}
-use lib.ListN.{length, set, take, drop, length-append}
-use lib.Seq.{take-append_seam, length-take-le, take-length, take_at, drop_at, drop-drop, sets, sets-eq, length-sets, paste-zero}
+use lib.ListN.{length, get_or, set, take, drop, length-append}
+use lib.Seq.{take-append_seam, length-take-le, take-length, take_at, drop_at, drop-drop, sets, sets-eq, length-sets, paste, paste-zero, paste-suc}
 use borrow.Rule.Slice.PartMut.{put_mid}
 use Rattle.std.proofs.lemmas.Slice.{put_mid-paste}
 use Rattle.std.specs.Int.{bytes_high_first}
 use Rattle.octets.specs.Octets.{octets, part, splice, joined}
-use Rattle.octets.proofs.Numbers.{length_octets, octets_append, octets_mod}
+use Rattle.octets.proofs.Numbers.{length_octets, octets_append, octets_mod, part_add, length_part}
 
 -- a run of stores is a splice
 stored : (s : List ℕ) (at : ℕ) (ys : List ℕ) → at + length ys ≤ length s → sets s at ys ≡ splice s at ys
@@ -51,6 +51,68 @@ pub copied : (s ys zs : List ℕ) (at k : ℕ) → ys ≡ zs → k ≡ length zs
 unfolding splice
 copied s ys zs at k e l =
     put_mid-paste at k s ys zs (length zs) e (sym l) refl ∙ ap (λ (r : List ℕ). take at s ++ r ++ drop (at + length zs) s) (take-length zs)
+
+-- ---- a copy, octet by octet
+
+pub copy_turn : (s₀ s from : List ℕ) (at i : ℕ) → s ≡ paste s₀ at from i → at + i < length s₀ → i < length from
+    → set s (at + i) (get_or from i 0) ≡ paste s₀ at from (i + 1)
+copy_turn s₀ s from at i e hs hf = rw (e, add-one i) (paste-suc s₀ at from i 0 hs hf)
+
+pub copy_done : (s₀ s from : List ℕ) (at i : ℕ) → s ≡ paste s₀ at from i → i ≡ length from → s ≡ splice s₀ at from
+unfolding splice
+copy_done s₀ s from at i e h = e ∙ rw (h, take-length)
+
+-- the first i octets
+pub copied_so_far : (s₀ s from : List ℕ) (at i : ℕ) → s ≡ paste s₀ at from i → i ≤ length from → s ≡ splice s₀ at (take i from)
+unfolding splice
+copied_so_far s₀ s from at i e l =
+    e ∙ ap (λ (n : ℕ). take at s₀ ++ take i from ++ drop (at + n) s₀) (sym (length-take-le i from l))
+
+-- where too few are left for a piece nothing is copied
+pub nothing_copied : (s from : List ℕ) (at i : ℕ) → s ≡ splice s (at + i) (part from i (i - i))
+nothing_copied s from at i =
+    let k : 0 ≡ i - i = omega arith in
+    splice_nothing s (at + i) ∙ ap (λ (n : ℕ). splice s (at + i) (part from i n)) k
+
+-- two pieces, one behind the other
+pub more_copied : (s t u from : List ℕ) (at i j k : ℕ) → t ≡ splice s (at + i) (part from i (j - i)) → u ≡ splice t (at + j) (part from j (k - j))
+    → i ≤ j → j ≤ k → k ≤ length from → at + length from ≤ length s → u ≡ splice s (at + i) (part from i (k - i))
+more_copied s t u from at i j k e f a b c d =
+    let p : at + j ≡ at + i + (j - i) = omega arith in
+    let q : i + (j - i) ≡ j = omega arith in
+    let r : (j - i) + (k - j) ≡ k - i = omega arith in
+    f
+    ∙ ap (λ (x : List ℕ). splice x (at + j) (part from j (k - j))) e
+    ∙ ap (λ (n : ℕ). splice (splice s (at + i) (part from i (j - i))) n (part from j (k - j))) p
+    ∙ splice_splice s (at + i) (j - i) (part from i (j - i)) (part from j (k - j)) (length_part from i (j - i) (omega arith)) (omega arith)
+    ∙ ap (λ (n : ℕ). splice s (at + i) (part from i (j - i) ++ part from n (k - j))) (sym q)
+    ∙ ap (splice s (at + i)) (sym (part_add from i (j - i) (k - j)))
+    ∙ ap (λ (n : ℕ). splice s (at + i) (part from i n)) r
+
+-- all of it, from the front
+pub whole_copied : (s u from : List ℕ) (at : ℕ) → u ≡ splice s (at + 0) (part from 0 (length from - 0)) → u ≡ splice s at from
+whole_copied s u from at e =
+    let p : at + 0 ≡ at = omega arith in
+    let q : length from - 0 ≡ length from = omega arith in
+    e
+    ∙ ap (λ (n : ℕ). splice s n (part from 0 (length from - 0))) p
+    ∙ ap (λ (n : ℕ). splice s at (part from 0 n)) q
+    ∙ ap (splice s at) (take-length from)
+
+-- the rest of it behind its first i octets
+pub rest_copied : (s t u from : List ℕ) (at i : ℕ) → t ≡ paste s at from i → u ≡ splice t (at + i) (part from i (length from - i))
+    → i ≤ length from → at + length from ≤ length s → u ≡ splice s at from
+rest_copied s t u from at i e f l b =
+    let p : at ≡ at + 0 = omega arith in
+    let q : i ≡ i - 0 = omega arith in
+    whole_copied s u from at
+    (more_copied s t u from at 0 i (length from)
+    (copied_so_far s t from at i e l
+    ∙ ap (λ (n : ℕ). splice s n (take i from)) p
+    ∙ ap (λ (n : ℕ). splice s (at + 0) (part from 0 n)) q)
+    f (omega arith) l (omega arith) b)
+
+-- ---- a number's octets
 
 -- the octets that the library makes of a number
 be_octets : (n x : ℕ) → bytes_high_first n x ≡ octets n x

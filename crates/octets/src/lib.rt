@@ -1,8 +1,8 @@
 // Lent octets: big-endian numbers of 1, 2, 4 and 8 octets read and written in them, and copies between them.
 #![tactic(auto)]
 
-ghost use Rattle.std.specs.Prelude.{◌≡◌, ◌+◌, ◌≤◌, ℕ, length};
-ghost use Rattle.octets.specs.Octets.{octets, number_at, splice};
+ghost use Rattle.std.specs.Prelude.{◌≡◌, ◌+◌, ◌-◌, ◌<◌, ◌≤◌, ℕ, length};
+ghost use Rattle.octets.specs.Octets.{octets, part, number_at, splice};
 
 // A number that a layout has as a field: the octets that it takes there, and reading and writing them. That the octets are there, `at` and the
 // width within the slice, stands at each function that reads or writes: `at` is another place in each, and a type for a slice with a place in it
@@ -92,11 +92,60 @@ impl Field for u64 {
     }
 }
 
+// Copies the N octets of `from` behind place i, if so many are left, and answers the place behind what it copied. With a length that is not known
+// beforehand `copy_from_slice` is a call of `memmove`, and what C links calls no outside function (include/sdt.h); with N it is a few loads and stores.
+#[inline(always)]
+fn copy_piece<const N: usize>(to: &mut [u8], at: usize, from: &[u8], i: usize) -> usize
+    requires { (i ≤ length from.now) × (at + length from.now ≤ length to.old) }
+    ensures left { length from.now < i + N + N → length from.now < result + N }
+    ensures within { (i ≤ result) × (result ≤ length from.now) }
+    ensures copied { to.new ≡ splice to.old (at + i) (part from.now i (result - i)) }
+{
+    if from.len() - i < N {
+        return i;
+    }
+    to[at + i..at + i + N].copy_from_slice(&from[i..i + N]);
+    i + N
+}
+
+// Copies what is left of `from` behind place i, fewer than 32 octets, by halves.
+#[inline(always)]
+fn copy_rest(to: &mut [u8], at: usize, from: &[u8], i: usize)
+    requires { (i ≤ length from.now) × (length from.now < i + 32) × (at + length from.now ≤ length to.old) }
+    ensures { to.new ≡ splice to.old (at + i) (part from.now i (length from.now - i)) }
+{
+    let i = copy_piece::<16>(to, at, from, i);
+    let i = copy_piece::<8>(to, at, from, i);
+    let i = copy_piece::<4>(to, at, from, i);
+    let i = copy_piece::<2>(to, at, from, i);
+    copy_piece::<1>(to, at, from, i);
+}
+
+// Copies runs of 32 octets, of each of which the compiler makes a few loads and stores, and then the rest. It is a call of its own, so that writing a
+// message with few contents or none does not bear the loop's registers.
+#[inline(never)]
+#[tactic(auto, using(crate::proofs::Writes::copy_turn))]
+fn copy_long(to: &mut [u8], at: usize, from: &[u8])
+    requires { at + length from.now ≤ length to.old }
+    ensures { to.new ≡ splice to.old at from.now }
+{
+    let runs = from.len() / 32 * 32;
+    for j in 0..runs {
+        to[at + j] = from[j];
+    }
+    copy_rest(to, at, from, runs);
+}
+
 // Copies all of `from` over the octets of `to` from `at` on.
-#[tactic(auto, using(crate::proofs::Writes::copied))]
+#[inline(always)]
+#[tactic(auto, using(crate::proofs::Writes::whole_copied))]
 pub fn copy_into(to: &mut [u8], at: usize, from: &[u8])
     requires { at + length from.now ≤ length to.old }
     ensures { to.new ≡ splice to.old at from.now }
 {
-    to[at..at + from.len()].copy_from_slice(from);
+    if from.len() < 32 {
+        copy_rest(to, at, from, 0);
+    } else {
+        copy_long(to, at, from);
+    }
 }
