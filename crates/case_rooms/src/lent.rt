@@ -75,8 +75,17 @@ impl Room {
         Ok(())
     }
 
+    // Whether no octet was changed. 64 are compared at once, which is much faster.
+    fn is_filled(&self) -> bool {
+        let (parts, rest) = self.octets.as_slice().as_chunks::<64>();
+        parts.iter().all(|part| *part == [FILL; 64]) && rest.iter().all(|b| *b == FILL)
+    }
+
     // The first octet that was changed. A report calls the room `piece`.
     pub fn fault(&self, piece: &'static str) -> Option<Fault> {
+        if self.is_filled() {
+            return None;
+        }
         let at = self.octets.iter().position(|b| *b != FILL)?;
         Some(Fault { at, piece })
     }

@@ -133,8 +133,11 @@ impl fmt::Display for Hex<'_> {
         if self.0.is_empty() {
             return f.write_str("-");
         }
-        for b in self.0 {
-            write!(f, "{b:02x}")?;
+        // Eight octets are written as one number, which is much faster than one by one.
+        for part in self.0.chunks(8) {
+            let number = part.iter().fold(0u64, |n, b| n << 8 | u64::from(*b));
+            let width = 2 * part.len();
+            write!(f, "{number:0width$x}")?;
         }
         Ok(())
     }
