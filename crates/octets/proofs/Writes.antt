@@ -1,17 +1,18 @@
 -- What writes into lent octets come to: one `splice` for a number, for a run of numbers and for a copy. Assumes nothing.
-use mathlib.Core.Path.{◌≡◌, refl, sym, ap, ◌∙◌}
+use mathlib.Core.Path.{◌≡◌, refl, sym, ap, ap₂, ◌∙◌}
 use Prim.Native.Nat.{ℕ, zero, suc, ◌+◌, ◌-◌, ◌^◌, ◌/◌, ◌%◌, ◌<◌, ◌≤◌}
 use native.Mathlib.Nat.{div-one, mod-eq_of_lt, add_assoc}
 use native.Mathlib.Omega.{arith}
 use native.Mathlib.Numerals.{add-one}
 use mathlib.Core.List.{List, [], ◌∷◌, ◌++◌, append_assoc}
 use lib.ListN.{length, get_or, set, take, drop, length-append}
-use lib.Seq.{take-append_seam, length-take-le, take-length, take_at, drop_at, drop-drop, sets, sets-eq, length-sets, paste, paste-zero, paste-suc}
+use lib.Seq.{take-append_seam, length-take-le, take-length, take-add, take_at, drop_at, drop-drop, sets, sets-eq, length-sets, paste, paste-zero, paste-suc}
 use borrow.Rule.Slice.PartMut.{put_mid}
 use Rattle.std.proofs.lemmas.Slice.{put_mid-paste}
+use Rattle.std.proofs.lemmas.List.{nil_from_length}
 use Rattle.std.specs.Int.{bytes_high_first}
 use Rattle.octets.specs.Octets.{octets, part, splice, joined}
-use Rattle.octets.proofs.Numbers.{length_octets, octets_append, octets_mod, part_add, length_part}
+use Rattle.octets.proofs.Numbers.{length_octets, octets_append, octets_mod, length_part}
 
 -- a run of stores is a splice
 stored : (s : List ℕ) (at : ℕ) (ys : List ℕ) → at + length ys ≤ length s → sets s at ys ≡ splice s at ys
@@ -68,49 +69,55 @@ unfolding splice
 copied_so_far s₀ s from at i e l =
     e ∙ ap (λ (n : ℕ). take at s₀ ++ take i from ++ drop (at + n) s₀) (sym (length-take-le i from l))
 
--- where too few are left for a piece nothing is copied
-pub nothing_copied : (s from : List ℕ) (at i : ℕ) → s ≡ splice s (at + i) (part from i (i - i))
-nothing_copied s from at i =
-    let k : 0 ≡ i - i = omega arith in
-    splice_nothing s (at + i) ∙ ap (λ (n : ℕ). splice s (at + i) (part from i n)) k
+-- a splice over another at the same place, at least as long: the first leaves nothing
+over_again : (s : List ℕ) (at : ℕ) (ys zs : List ℕ) → at + length zs ≤ length s → length ys ≤ length zs
+    → splice (splice s at ys) at zs ≡ splice s at zs
+unfolding splice
+over_again s at ys zs h l =
+    let p : List ℕ = take at s ++ ys in
+    let n : length p ≡ at + length ys = length-append (take at s) ys ∙ ap (λ (k : ℕ). k + length ys) (length-take-le at s (omega arith)) in
+    let q : (at + length ys) + (length zs - length ys) ≡ at + length zs = omega arith in
+    let t : List ℕ = take at s ++ ys ++ drop (at + length ys) s in
+    let front : take at t ≡ take at s =
+    ap (take at) (append_assoc (take at s) ys (drop (at + length ys) s)) ∙ take_at (take at s) (ys ++ drop (at + length ys) s) at (length-take-le at s (omega arith)) in
+    let back : drop (at + length zs) t ≡ drop (at + length zs) s =
+    ap (λ (k : ℕ). drop k t) (sym q)
+    ∙ sym (drop-drop (length zs - length ys) (at + length ys) t)
+    ∙ ap (drop (length zs - length ys)) (drop_at p (drop (at + length ys) s) (at + length ys) n)
+    ∙ drop-drop (length zs - length ys) (at + length ys) s
+    ∙ ap (λ (k : ℕ). drop k s) q in
+    ap₂ (λ (x y : List ℕ). x ++ zs ++ y) front back
 
--- two pieces, one behind the other
-pub more_copied : (s t u from : List ℕ) (at i j k : ℕ) → t ≡ splice s (at + i) (part from i (j - i)) → u ≡ splice t (at + j) (part from j (k - j))
-    → i ≤ j → j ≤ k → k ≤ length from → at + length from ≤ length s → u ≡ splice s (at + i) (part from i (k - i))
-more_copied s t u from at i j k e f a b c d =
-    let p : at + j ≡ at + i + (j - i) = omega arith in
-    let q : i + (j - i) ≡ j = omega arith in
-    let r : (j - i) + (k - j) ≡ k - i = omega arith in
+-- the first i octets are there, and then all from j to the end are copied, where j is not past i
+pub end_copied : (s t u from : List ℕ) (at i j n : ℕ) → t ≡ splice s at (take i from) → u ≡ splice t (at + j) (part from j n) → j ≤ i → i ≤ j + n
+    → j + n ≡ length from → at + length from ≤ length s → u ≡ splice s at from
+end_copied s t u from at i j n e f a b d h =
+    let k : j + (i - j) ≡ i = omega arith in
+    let w : List ℕ = splice s at (take j from) in
+    let lj : length (take j from) ≡ j = length-take-le j from (omega arith) in
+    let split : take i from ≡ take j from ++ part from j (i - j) = ap (λ (m : ℕ). take m from) (sym k) ∙ take-add j (i - j) from in
+    let first : t ≡ splice w (at + j) (part from j (i - j)) =
+    e ∙ ap (splice s at) split ∙ sym (splice_splice s at j (take j from) (part from j (i - j)) lj (omega arith)) in
+    let lw : length w ≡ length s = length_splice s at (take j from) (omega (arith, lj)) in
+    let la : length (part from j (i - j)) ≡ i - j = length_part from j (i - j) (omega arith) in
+    let lb : length (part from j n) ≡ n = length_part from j n (omega arith) in
     f
-    ∙ ap (λ (x : List ℕ). splice x (at + j) (part from j (k - j))) e
-    ∙ ap (λ (n : ℕ). splice (splice s (at + i) (part from i (j - i))) n (part from j (k - j))) p
-    ∙ splice_splice s (at + i) (j - i) (part from i (j - i)) (part from j (k - j)) (length_part from i (j - i) (omega arith)) (omega arith)
-    ∙ ap (λ (n : ℕ). splice s (at + i) (part from i (j - i) ++ part from n (k - j))) (sym q)
-    ∙ ap (splice s (at + i)) (sym (part_add from i (j - i) (k - j)))
-    ∙ ap (λ (n : ℕ). splice s (at + i) (part from i n)) r
+    ∙ ap (λ (x : List ℕ). splice x (at + j) (part from j n)) first
+    ∙ over_again w (at + j) (part from j (i - j)) (part from j n) (omega (arith, lw, lb)) (omega (arith, la, lb))
+    ∙ splice_splice s at j (take j from) (part from j n) lj (omega arith)
+    ∙ ap (splice s at) (sym (take-add j n from) ∙ ap (λ (m : ℕ). take m from) d ∙ take-length from)
 
--- all of it, from the front
-pub whole_copied : (s u from : List ℕ) (at : ℕ) → u ≡ splice s (at + 0) (part from 0 (length from - 0)) → u ≡ splice s at from
-whole_copied s u from at e =
+-- the first n octets and the last
+pub ends_copied : (s t u from : List ℕ) (at n : ℕ) → t ≡ splice s (at + 0) (part from 0 n) → u ≡ splice t (at + (length from - n)) (part from (length from - n) n)
+    → n ≤ length from → length from ≤ n + n → at + length from ≤ length s → u ≡ splice s at from
+ends_copied s t u from at n e f l b h =
     let p : at + 0 ≡ at = omega arith in
-    let q : length from - 0 ≡ length from = omega arith in
-    e
-    ∙ ap (λ (n : ℕ). splice s n (part from 0 (length from - 0))) p
-    ∙ ap (λ (n : ℕ). splice s at (part from 0 n)) q
-    ∙ ap (splice s at) (take-length from)
+    end_copied s t u from at n (length from - n) n
+    (e ∙ ap (λ (k : ℕ). splice s k (part from 0 n)) p) f (omega arith) (omega arith) (omega arith) h
 
--- the rest of it behind its first i octets
-pub rest_copied : (s t u from : List ℕ) (at i : ℕ) → t ≡ paste s at from i → u ≡ splice t (at + i) (part from i (length from - i))
-    → i ≤ length from → at + length from ≤ length s → u ≡ splice s at from
-rest_copied s t u from at i e f l b =
-    let p : at ≡ at + 0 = omega arith in
-    let q : i ≡ i - 0 = omega arith in
-    whole_copied s u from at
-    (more_copied s t u from at 0 i (length from)
-    (copied_so_far s t from at i e l
-    ∙ ap (λ (n : ℕ). splice s n (take i from)) p
-    ∙ ap (λ (n : ℕ). splice s (at + 0) (part from 0 n)) q)
-    f (omega arith) l (omega arith) b)
+-- no octets are nothing
+pub nothing_copied : (s from : List ℕ) (at : ℕ) → length from ≡ 0 → s ≡ splice s at from
+nothing_copied s from at e = splice_nothing s at ∙ ap (splice s at) (sym (nil_from_length from e))
 
 -- ---- a number's octets
 

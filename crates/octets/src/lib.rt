@@ -92,60 +92,56 @@ impl Field for u64 {
     }
 }
 
-// Copies the N octets of `from` behind place i, if so many are left, and answers the place behind what it copied. With a length that is not known
-// beforehand `copy_from_slice` is a call of `memmove`, and what C links calls no outside function (include/sdt.h); with N it is a few loads and stores.
+// Copies the N octets of `from` at i. With a length that is not known beforehand `copy_from_slice` is a call of `memmove`, and what C links calls no
+// outside function (include/sdt.h); an array of N is a few loads and stores.
 #[inline(always)]
-fn copy_piece<const N: usize>(to: &mut [u8], at: usize, from: &[u8], i: usize) -> usize
-    requires { (i ≤ length from.now) × (at + length from.now ≤ length to.old) }
-    ensures left { length from.now < i + N + N → length from.now < result + N }
-    ensures within { (i ≤ result) × (result ≤ length from.now) }
-    ensures copied { to.new ≡ splice to.old (at + i) (part from.now i (result - i)) }
+fn copy_piece<const N: usize>(to: &mut [u8], at: usize, from: &[u8], i: usize)
+    requires { (i + N ≤ length from.now) × (at + length from.now ≤ length to.old) }
+    ensures { to.new ≡ splice to.old (at + i) (part from.now i N) }
 {
-    if from.len() - i < N {
-        return i;
-    }
-    to[at + i..at + i + N].copy_from_slice(&from[i..i + N]);
-    i + N
+    let piece: [u8; N] = *from[i..i + N].as_array().unwrap();
+    to[at + i..at + i + N].copy_from_slice(&piece);
 }
 
-// Copies what is left of `from` behind place i, fewer than 32 octets, by halves.
+// Copies all of `from`, N octets to twice as many: the first N and the last N, which may overlap.
 #[inline(always)]
-fn copy_rest(to: &mut [u8], at: usize, from: &[u8], i: usize)
-    requires { (i ≤ length from.now) × (length from.now < i + 32) × (at + length from.now ≤ length to.old) }
-    ensures { to.new ≡ splice to.old (at + i) (part from.now i (length from.now - i)) }
+fn copy_ends<const N: usize>(to: &mut [u8], at: usize, from: &[u8])
+    requires { (N ≤ length from.now) × (length from.now ≤ N + N) × (at + length from.now ≤ length to.old) }
+    ensures { to.new ≡ splice to.old at from.now }
 {
-    let i = copy_piece::<16>(to, at, from, i);
-    let i = copy_piece::<8>(to, at, from, i);
-    let i = copy_piece::<4>(to, at, from, i);
-    let i = copy_piece::<2>(to, at, from, i);
-    copy_piece::<1>(to, at, from, i);
+    copy_piece::<N>(to, at, from, 0);
+    copy_piece::<N>(to, at, from, from.len() - N);
 }
 
-// Copies runs of 32 octets, of each of which the compiler makes a few loads and stores, and then the rest. It is a call of its own, so that writing a
-// message with few contents or none does not bear the loop's registers.
+// Copies runs of 32 octets, of each of which the compiler makes a few loads and stores, and then the last 32. It is a call of its own, so that writing
+// a message with few contents or none does not bear the loop's registers.
 #[inline(never)]
 #[tactic(auto, using(crate::proofs::Writes::copy_turn))]
 fn copy_long(to: &mut [u8], at: usize, from: &[u8])
-    requires { at + length from.now ≤ length to.old }
+    requires { (32 ≤ length from.now) × (at + length from.now ≤ length to.old) }
     ensures { to.new ≡ splice to.old at from.now }
 {
     let runs = from.len() / 32 * 32;
     for j in 0..runs {
         to[at + j] = from[j];
     }
-    copy_rest(to, at, from, runs);
+    copy_piece::<32>(to, at, from, from.len() - 32);
 }
 
 // Copies all of `from` over the octets of `to` from `at` on.
 #[inline(always)]
-#[tactic(auto, using(crate::proofs::Writes::whole_copied))]
+#[tactic(auto, using(crate::proofs::Writes::nothing_copied))]
 pub fn copy_into(to: &mut [u8], at: usize, from: &[u8])
     requires { at + length from.now ≤ length to.old }
     ensures { to.new ≡ splice to.old at from.now }
 {
-    if from.len() < 32 {
-        copy_rest(to, at, from, 0);
-    } else {
-        copy_long(to, at, from);
+    match from.len() {
+        32.. => copy_long(to, at, from),
+        16.. => copy_ends::<16>(to, at, from),
+        8.. => copy_ends::<8>(to, at, from),
+        4.. => copy_ends::<4>(to, at, from),
+        2.. => copy_ends::<2>(to, at, from),
+        1 => copy_ends::<1>(to, at, from),
+        0 => {}
     }
 }
