@@ -124,6 +124,8 @@ pub fn octets(alloc: Global, word: &[u8]) -> Result<Option<Vec<u8>>, AllocError>
     Ok(Some(octets))
 }
 
+const DIGITS: [u8; 16] = *b"0123456789abcdef";
+
 // Octets as pairs of hex digits, or `-` where there are none.
 #[derive(Clone, Copy)]
 pub struct Hex<'a>(pub &'a [u8]);
@@ -133,11 +135,17 @@ impl fmt::Display for Hex<'_> {
         if self.0.is_empty() {
             return f.write_str("-");
         }
-        // Eight octets are written as one number, which is much faster than one by one.
-        for part in self.0.chunks(8) {
-            let number = part.iter().fold(0u64, |n, b| n << 8 | u64::from(*b));
-            let width = 2 * part.len();
-            write!(f, "{number:0width$x}")?;
+        // Part by part, which is much faster than octet by octet.
+        for part in self.0.chunks(32) {
+            let mut digits = [[0; 2]; 32];
+            for (pair, b) in digits.iter_mut().zip(part) {
+                *pair = [DIGITS[usize::from(b >> 4)], DIGITS[usize::from(b & 15)]];
+            }
+            let text = digits
+                .as_flattened()
+                .get(..2 * part.len())
+                .unwrap_or_default();
+            f.write_str(str::from_utf8(text).unwrap_or_default())?;
         }
         Ok(())
     }
